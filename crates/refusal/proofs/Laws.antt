@@ -1,0 +1,75 @@
+-- The laws of answers that the proofs of all crates cite: what becomes of a refusal, and of what is given. Assumes nothing.
+use mathlib.Core.Path.{_≡_, refl, sym, ap, _∙_}
+use Prim.Native.Nat.{ℕ, _≤_, _<_}
+use native.Mathlib.Omega.{arith}
+use mathlib.Core.Bool.{Bool, true, false}
+use mathlib.Core.List.{List, [], _∷_}
+use lib.Dec.{leb}
+use borrow.Author.Tests.{le-leb, lt-leb, leb-true}
+use Rattle.refusal.specs.Answer.{Answer, gives, refuses, pick, mapA, andThen, also, Test, placeTest}
+
+-- ---- what is given
+
+pub gives-same : {A : Type 0} (x y : A) → gives x ≡ gives y → x ≡ y
+gives-same x y e = cc
+
+pub gives-or-refuses : {A : Type 0} (x : A) (n : ℕ) (vs : List ℕ) → gives x ≡ refuses n vs → ⊥
+gives-or-refuses x n vs e = let z : _≡_ {A = ℕ} 0 1 = cc in omega arith
+
+pub given-by : {A B : Type 0} (f : A → Answer B) (a : Answer A) (y : B) → andThen a f ≡ gives y → (x : A) × (a ≡ gives x) × (f x ≡ gives y)
+given-by f (gives x) y e = (x, refl, e)
+given-by f (refuses n vs) y e = absurd (gives-or-refuses y n vs (sym e))
+
+pub mapped-by : {A B : Type 0} (f : A → B) (a : Answer A) (y : B) → mapA f a ≡ gives y → (x : A) × (a ≡ gives x) × (f x ≡ y)
+mapped-by f (gives x) y e = (x, refl, gives-same (f x) y e)
+mapped-by f (refuses n vs) y e = absurd (gives-or-refuses y n vs (sym e))
+
+pub mapA-mapA : {A B C : Type 0} (g : B → C) (f : A → B) (a : Answer A) → mapA g (mapA f a) ≡ mapA (λ x. g (f x)) a
+mapA-mapA g f (gives x) = refl
+mapA-mapA g f (refuses n vs) = refl
+
+-- ---- tests, and what follows them
+
+-- the refusal of a test is the answer
+pub also-refused : {B : Type 0} (a : Test) (b : Answer B) (n : ℕ) (vs : List ℕ) → refuses n vs ≡ a → refuses n vs ≡ also a b
+also-refused a b n vs e = rw (← e)
+
+-- where the test is passed, the answer is what follows
+pub also-passed : {B : Type 0} (a : Test) (b : Answer B) → gives tt ≡ a → also a b ≡ b
+also-passed a b e = rw (← e)
+
+-- what is given was given behind a test that was passed
+pub also-both : {B : Type 0} (a : Test) (b : Answer B) (x : B) → gives x ≡ also a b → (gives tt ≡ a) × (gives x ≡ b)
+also-both (gives tt) b x e = (refl, e)
+also-both (refuses n vs) b x e = absurd (gives-or-refuses x n vs e)
+
+pub also-also : {B : Type 0} (a b : Test) (x : Answer B) → also (also a b) x ≡ also a (also b x)
+also-also (gives tt) b x = refl
+also-also (refuses n vs) b x = refl
+
+pub mapA-also : {B C : Type 0} (f : B → C) (a : Test) (b : Answer B) → mapA f (also a b) ≡ also a (mapA f b)
+mapA-also f (gives tt) b = refl
+mapA-also f (refuses n vs) b = refl
+
+-- two tests, from what each told
+pub also-of : {B : Type 0} {x a : Test} {y b : Answer B} {t : Answer B} → t ≡ also x y → x ≡ a → y ≡ b → t ≡ also a b
+also-of e p q = e ∙ (λ i. also (p i) (q i))
+
+-- a test that gives tt or one refusal: what it says of the fact that it tests
+pub pick-passed : (b : Bool) (n : ℕ) (vs : List ℕ) → _≡_ {A = Test} (gives tt) (pick b (gives tt) (refuses n vs)) → b ≡ true
+pick-passed true n vs e = refl
+pick-passed false n vs e = absurd (gives-or-refuses tt n vs e)
+
+-- ---- 15
+
+pub placeTest-in : (place n : ℕ) → place ≤ n → placeTest place n ≡ gives tt
+unfolding placeTest
+placeTest-in place n h = simp (le-leb _ _ h)
+
+pub placeTest-out : (place n : ℕ) → n < place → placeTest place n ≡ refuses 15 (place ∷ [])
+unfolding placeTest
+placeTest-out place n h = simp (lt-leb _ _ h)
+
+pub placeTest-passed : (place n : ℕ) → gives tt ≡ placeTest place n → place ≤ n
+unfolding placeTest
+placeTest-passed place n e = leb-true _ _ (pick-passed (leb place n) 15 (place ∷ []) e)
