@@ -1,0 +1,70 @@
+-- The laws of `Wrote`: every writer of the library is proved by these, and by what it lays down. Assumes nothing.
+use mathlib.Core.Path.{_≡_, refl, sym, ap, _∙_}
+use Prim.Native.Nat.{ℕ, _+_, _-_, _≤_, _<_}
+use native.Mathlib.Omega.{arith}
+use native.Mathlib.Nat.{sub-zero}
+use mathlib.Core.List.{List, [], _∷_, _++_}
+use lib.ListN.{length, drop}
+use borrow.Author.Tests.{le-leb, lt-leb}
+use Rattle.refusal.specs.Answer.{Answer, gives, refuses, mapA, also, Test, placeTest}
+use Rattle.refusal.specs.Told.{toldWritten}
+use Rattle.refusal.specs.declared.Written.{Written}
+use Rattle.refusal.proofs.Laws.{also-passed, also-refused, placeTest-in, placeTest-out}
+use Rattle.refusal.proofs.Once.{one-written}
+use Rattle.splice.specs.Laid.{laid}
+use Rattle.splice.specs.Writing.{roomFor, roomAt, leaves, Wrote}
+use Rattle.splice.proofs.Laws.{laid-front}
+
+-- ---- room
+
+pub roomFor-in : (n : ℕ) (bs : List ℕ) → length bs ≤ n → roomFor n bs ≡ gives bs
+unfolding roomFor
+roomFor-in n bs h = simp (le-leb _ _ h)
+
+pub roomFor-out : (n : ℕ) (bs : List ℕ) → n < length bs → roomFor n bs ≡ refuses 2 (n ∷ length bs ∷ [])
+unfolding roomFor
+roomFor-out n bs h = simp (lt-leb _ _ h)
+
+pub roomAt-past : (at n : ℕ) (bs : List ℕ) → n < at → roomAt at n bs ≡ refuses 15 (at ∷ [])
+unfolding roomAt
+roomAt-past at n bs h = rw (placeTest-out at n h)
+
+pub roomAt-there : (at n : ℕ) (bs : List ℕ) → at ≤ n → roomAt at n bs ≡ roomFor (n - at) bs
+unfolding roomAt
+roomAt-there at n bs h = rw (placeTest-in at n h)
+
+-- from the front on, the whole buffer counts
+pub roomAt-front : (n : ℕ) (bs : List ℕ) → roomAt 0 n bs ≡ roomFor n bs
+roomAt-front n bs = roomAt-there 0 n bs (omega arith) ∙ rw sub-zero
+
+-- ---- a writer that tests, sees to the room, and lays its bytes down
+
+module _ (at : ℕ) (old : List ℕ) where
+  -- a refusal, and no byte changed
+  pub wrote-not : (out : Answer (List ℕ)) (n : ℕ) (vs : List ℕ) → refuses n vs ≡ out → Wrote at out (refuses n vs) old old
+  wrote-not out n vs e = record { answer = rw (← e); bytes = rw (← e) }
+
+  -- the bytes, laid
+  pub wrote : (out : Answer (List ℕ)) (bs new : List ℕ) (k : ℕ) → out ≡ gives bs → k ≡ length bs → new ≡ laid at bs old → Wrote at out (gives k) old new
+  wrote out bs new k e h g = record { answer = rw (e, h); bytes = rw e g }
+
+  -- a test refuses
+  pub wrote-refused : (test : Test) (out : Answer (List ℕ)) (n : ℕ) (vs : List ℕ) → refuses n vs ≡ test → Wrote at (also test out) (refuses n vs) old old
+  wrote-refused test out n vs e = wrote-not (also test out) n vs (also-refused test out n vs e)
+
+-- the same contract, where the test is passed
+pub wrote-passed : {at : ℕ} {test : Test} {out : Answer (List ℕ)} {told : Answer ℕ} {old new : List ℕ} → gives tt ≡ test → Wrote at out told old new → Wrote at (also test out) told old new
+wrote-passed {at} {test} {out} {told} {old} {new} e w =
+    rw (also-passed test out e) w
+
+-- where there is room, the bytes are laid
+pub wrote-laid : (at : ℕ) (bs old new : List ℕ) {told : Answer ℕ} → at + length bs ≤ length old → Wrote at (roomAt at (length old) bs) told old new → new ≡ laid at bs old
+wrote-laid at bs old new h w =
+    w .bytes
+    ∙ ap (λ (a : Answer (List ℕ)). leaves at a old) (roomAt-there at (length old) bs (omega arith) ∙ roomFor-in (length old - at) bs (omega arith))
+
+-- ---- ONE ANSWER, AND ONE BUFFER
+
+pub one-wrote : (at : ℕ) (out : Answer (List ℕ)) (old : List ℕ) (a b : Written) (new new′ : List ℕ)
+    → Wrote at out (toldWritten a) old new → Wrote at out (toldWritten b) old new′ → (a ≡ b) × (new ≡ new′)
+one-wrote at out old a b new new′ p q = (one-written (mapA length out) a b (p .answer) (q .answer), p .bytes ∙ sym (q .bytes))

@@ -1,0 +1,123 @@
+// Bytes into a lent buffer: the one copy of the library, and its one comparison.
+use refusal::Refusal;
+use refusal::Written;
+ghost use mathlib.Core.Path.{_≡_};
+ghost use Prim.Native.Nat.{_+_, _*_, _≤_};
+ghost use lib.ListN.{length};
+ghost use Rattle.refusal.specs.Told.{toldWritten};
+ghost use Rattle.splice.specs.Laid.{laid, sameBytes};
+ghost use Rattle.splice.specs.Writing.{roomAt, Wrote};
+
+pub mod number;
+
+// Copies all of src over dst from the place at on, through an array of its own. That no store to the array can touch src, and none to dst
+// the array, lets LLVM see two copies, join them into one `memmove` and drop the array; of a constant length it is plain loads and stores.
+fn through(dst: &mut [u8], at: usize, src: &[u8])
+    requires { ⌜ (length (now src) ≤ 256) × (at + length (now src) ≤ length (now dst)) ⌝ }
+    ensures { λ _. ⌜ now (dst .exit) ≡ laid at (now (src .entry)) (now (dst .entry)) ⌝ }
+{
+    let mut b = [0u8; 256];
+    let mut i: usize = 0;
+    while i < src.len() {
+        b[i] = src[i];
+        i += 1;
+    }
+    let mut j: usize = 0;
+    while j < src.len() {
+        dst[at + j] = b[j];
+        j += 1;
+    }
+}
+
+// The same, byte by byte.
+fn plain(dst: &mut [u8], at: usize, src: &[u8])
+    requires { ⌜ at + length (now src) ≤ length (now dst) ⌝ }
+    ensures { λ _. ⌜ now (dst .exit) ≡ laid at (now (src .entry)) (now (dst .entry)) ⌝ }
+{
+    let mut i = 0;
+    while i < src.len() {
+        dst[at + i] = src[i];
+        i += 1;
+    }
+}
+
+// The same, as the first w bytes and then the last w, where src has w to 2 * w of them.
+fn ends(dst: &mut [u8], at: usize, src: &[u8], w: usize)
+    requires { ⌜ (w ≤ 256) × (w ≤ length (now src)) × (length (now src) ≤ 2 * w) × (at + length (now src) ≤ length (now dst)) ⌝ }
+    ensures { λ _. ⌜ now (dst .exit) ≡ laid at (now (src .entry)) (now (dst .entry)) ⌝ }
+{
+    let m = src.len() - w;
+    through(dst, at, &src[..w]);
+    through(dst, at + m, &src[m..]);
+}
+
+// The same, whatever the length: the way that is fastest for it.
+fn lay(dst: &mut [u8], at: usize, src: &[u8])
+    requires { ⌜ at + length (now src) ≤ length (now dst) ⌝ }
+    ensures { λ _. ⌜ now (dst .exit) ≡ laid at (now (src .entry)) (now (dst .entry)) ⌝ }
+{
+    let n = src.len();
+    if 32 < n {
+        if n <= 256 {
+            through(dst, at, src);
+        } else {
+            plain(dst, at, src);
+        }
+        return;
+    }
+    if 16 <= n {
+        ends(dst, at, src, 16);
+        return;
+    }
+    if 8 <= n {
+        ends(dst, at, src, 8);
+        return;
+    }
+    if 4 <= n {
+        ends(dst, at, src, 4);
+        return;
+    }
+    if 2 <= n {
+        ends(dst, at, src, 2);
+        return;
+    }
+    if 1 <= n {
+        ends(dst, at, src, 1);
+        return;
+    }
+    through(dst, at, src);
+}
+
+// Copies all of src over dst from the place at on. 15 where the place is past the end, then 2, counted from the place.
+pub fn put(dst: &mut [u8], at: usize, src: &[u8]) -> Written
+    ensures { λ r. ⌜ Wrote at (roomAt at (length (now (dst .entry))) (now (src .entry))) (toldWritten r) (now (dst .entry)) (now (dst .exit)) ⌝ }
+{
+    if dst.len() < at {
+        return Written::Refused(Refusal::PlacePastEnd(at));
+    }
+    let found = dst.len() - at;
+    let expected = src.len();
+    if found < expected {
+        return Written::Refused(Refusal::ToSliceTooSmall { found, expected });
+    }
+    lay(dst, at, src);
+    Written::Bytes(expected)
+}
+
+// Whether a and b hold the same bytes. There is no way out of the loop before its end: so LLVM compares many bytes in a step.
+pub fn same(a: &[u8], b: &[u8]) -> bool
+    ensures { λ r. ⌜ r ≡ sameBytes (now (a .entry)) (now (b .entry)) ⌝ }
+{
+    if a.len() != b.len() {
+        return false;
+    }
+    let mut differ: usize = 0;
+    let mut i: usize = 0;
+    while i < a.len() {
+        if a[i] != b[i] {
+            differ = 1;
+        }
+        i += 1;
+    }
+    differ == 0
+}
