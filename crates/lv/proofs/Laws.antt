@@ -3,18 +3,17 @@ use mathlib.Core.Path.{_≡_, refl, sym, ap, subst, _∙_}
 use Prim.Native.Nat.{ℕ, suc, _+_, _-_, _≤_, _<_}
 use native.Mathlib.Omega.{arith}
 use native.Mathlib.Numerals.{add-one}
-use mathlib.Core.Bool.{Bool, true, false}
-use mathlib.Core.List.{List, [], _∷_, _++_}
+use mathlib.Core.List.{List, [], _∷_}
 use lib.ListN.{length, take, drop, getD, set, length-drop}
 use lib.Seq.{length-take-le, take-length, slice, slice-cons, length-slice}
 use lib.Dec.{leb}
 use borrow.Author.Tests.{le-leb, lt-leb, leb-true}
 use Rattle.bluebook.specs.Layouts.{lv}
-use Rattle.refusal.specs.Answer.{Answer, gives, refuses, mapA, also, Test, placeTest}
+use Rattle.refusal.specs.Answer.{Answer, gives, refuses, mapA, also}
 use Rattle.refusal.specs.Reader.{took}
 use Rattle.refusal.proofs.Laws.{also-passed, also-refused, also-both, pick-passed, placeTest-in, placeTest-out}
 use Rattle.splice.specs.Laid.{laid, sameBytes}
-use Rattle.splice.specs.Writing.{roomFor, roomAt, Wrote}
+use Rattle.splice.specs.Writing.{roomAt, Wrote}
 use Rattle.splice.proofs.Laws.{laid-cons}
 use Rattle.splice.proofs.Writing.{roomFor-in, roomFor-out, roomAt-past, roomAt-there, roomAt-front, wrote, wrote-not, wrote-refused, wrote-passed, wrote-laid}
 use Rattle.lv.specs.Rules.{span, partOf, spanTest, sizeTest, newLv, lenFull, takeLv, readLv, readLvAt, writeTest, writeLv, writeLvAt, sameLv}

@@ -77,7 +77,8 @@ impl Lv {
     pub fn is_empty(self) -> bool
         ensures { λ r. ⌜ r ≡ eqb (self .len) 0 ⌝ }
     {
-        self.len == 0
+        let len = self.len;
+        len == 0
     }
 
     // The value, as a part of the buffer, or the buffer's first 0 bytes where the span passes its end: `span_test` tells that.

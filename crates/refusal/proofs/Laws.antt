@@ -1,12 +1,11 @@
 -- The laws of answers that the proofs of all crates cite: what becomes of a refusal, and of what is given. Assumes nothing.
-use mathlib.Core.Path.{_≡_, refl, sym, ap, _∙_}
+use mathlib.Core.Path.{_≡_, refl, sym, _∙_}
 use Prim.Native.Nat.{ℕ, _≤_, _<_}
 use native.Mathlib.Omega.{arith}
 use mathlib.Core.Bool.{Bool, true, false}
 use mathlib.Core.List.{List, [], _∷_}
-use lib.Dec.{leb}
-use borrow.Author.Tests.{le-leb, lt-leb, leb-true}
-use Rattle.refusal.specs.Answer.{Answer, gives, refuses, pick, mapA, andThen, also, Test, placeTest}
+use borrow.Author.Tests.{le-leb, lt-leb}
+use Rattle.refusal.specs.Answer.{Answer, gives, refuses, pick, mapA, also, Test, placeTest}
 
 -- ---- what is given
 
@@ -15,10 +14,6 @@ gives-same x y e = cc
 
 pub gives-or-refuses : {A : Type 0} (x : A) (n : ℕ) (vs : List ℕ) → gives x ≡ refuses n vs → ⊥
 gives-or-refuses x n vs e = let z : _≡_ {A = ℕ} 0 1 = cc in omega arith
-
-pub given-by : {A B : Type 0} (f : A → Answer B) (a : Answer A) (y : B) → andThen a f ≡ gives y → (x : A) × (a ≡ gives x) × (f x ≡ gives y)
-given-by f (gives x) y e = (x, refl, e)
-given-by f (refuses n vs) y e = absurd (gives-or-refuses y n vs (sym e))
 
 pub mapped-by : {A B : Type 0} (f : A → B) (a : Answer A) (y : B) → mapA f a ≡ gives y → (x : A) × (a ≡ gives x) × (f x ≡ y)
 mapped-by f (gives x) y e = (x, refl, gives-same (f x) y e)
@@ -43,14 +38,6 @@ pub also-both : {B : Type 0} (a : Test) (b : Answer B) (x : B) → gives x ≡ a
 also-both (gives tt) b x e = (refl, e)
 also-both (refuses n vs) b x e = absurd (gives-or-refuses x n vs e)
 
-pub also-also : {B : Type 0} (a b : Test) (x : Answer B) → also (also a b) x ≡ also a (also b x)
-also-also (gives tt) b x = refl
-also-also (refuses n vs) b x = refl
-
-pub mapA-also : {B C : Type 0} (f : B → C) (a : Test) (b : Answer B) → mapA f (also a b) ≡ also a (mapA f b)
-mapA-also f (gives tt) b = refl
-mapA-also f (refuses n vs) b = refl
-
 -- two tests, from what each told
 pub also-of : {B : Type 0} {x a : Test} {y b : Answer B} {t : Answer B} → t ≡ also x y → x ≡ a → y ≡ b → t ≡ also a b
 also-of e p q = e ∙ (λ i. also (p i) (q i))
@@ -69,7 +56,3 @@ placeTest-in place n h = simp (le-leb _ _ h)
 pub placeTest-out : (place n : ℕ) → n < place → placeTest place n ≡ refuses 15 (place ∷ [])
 unfolding placeTest
 placeTest-out place n h = simp (lt-leb _ _ h)
-
-pub placeTest-passed : (place n : ℕ) → gives tt ≡ placeTest place n → place ≤ n
-unfolding placeTest
-placeTest-passed place n e = leb-true _ _ (pick-passed (leb place n) 15 (place ∷ []) e)

@@ -1,12 +1,12 @@
 -- ONE ANSWER ONLY: a telling has a left inverse, so no two answers are told alike, and two that a contract allows coincide. Assumes nothing.
 use mathlib.Core.Path.{_≡_, refl, sym, ap, _∙_}
 use Prim.Native.Nat.{ℕ}
-use mathlib.Core.Bool.{Bool, true, false}
+use mathlib.Core.Bool.{Bool}
 use mathlib.Core.List.{List, [], _∷_}
 use lib.ListN.{getD}
 use lib.Dec.{eqb}
 use Rattle.refusal.specs.Answer.{Answer, gives, refuses, pick, Test}
-use Rattle.refusal.specs.Told.{numberOf, valuesOf, refused, toldValues, toldWritten, toldChecked, toldLength, toldSameness}
+use Rattle.refusal.specs.Told.{numberOf, valuesOf, toldValues, toldWritten, toldChecked, toldLength, toldSameness}
 use Rattle.refusal.specs.declared.Refusal.{Refusal}
 use Rattle.refusal.specs.declared.Refusal.the-variants.{FromSliceTooSmall, ToSliceTooSmall, InvalidTlvTypeFieldError, TlvLvDataTooLargeError, InvalidValueLength, SecondNameMissing, InvalidFilestoreActionCode, SecondNameNotDue, StatusTooLarge, NumberTooLarge, LowBitsNotZero, BytesLeft, UnknownStatus, InputTooLong, PlacePastEnd}
 use Rattle.refusal.specs.declared.Values.{Values}
@@ -23,6 +23,10 @@ use Rattle.refusal.specs.declared.Sameness.the-variants.{Same, Different
 -- THE LAW: f tells an answer, and g takes each telling back
 pub only-one : {E T : Type 0} (f : E → T) (g : T → E) → ((e : E) → g (f e) ≡ e) → (x : T) (a b : E) → f a ≡ x → f b ≡ x → a ≡ b
 only-one f g h x a b p q = sym (h a) ∙ ap g (p ∙ sym q) ∙ h b
+
+-- where the contract says what the answer is, or what bytes a returned part has
+pub one-is : {E : Type 0} (x a b : E) → a ≡ x → b ≡ x → a ≡ b
+one-is x a b p q = p ∙ sym q
 
 -- ---- refusals
 

@@ -1,10 +1,10 @@
 -- The laws of readers tied to layouts. Assumes nothing.
-use mathlib.Core.Path.{_≡_, refl, sym, ap, _∙_}
+use mathlib.Core.Path.{_≡_, sym, ap, _∙_}
 use Prim.Native.Nat.{ℕ}
 use mathlib.Core.Logic.{_↔_}
 use mathlib.Core.List.{List, _++_}
-use Rattle.refusal.specs.Answer.{Answer, gives, mapA}
-use Rattle.refusal.specs.Reader.{Took, took, Reader, Exactly, Begins}
+use Rattle.refusal.specs.Answer.{gives, mapA}
+use Rattle.refusal.specs.Reader.{took, Reader, Exactly, Begins}
 use Rattle.refusal.proofs.Laws.{gives-same, mapped-by}
 
 module _ {M : Type 0} {read : Reader M} {ok : M → Type 0} {layout : M → List ℕ} (tie : Exactly read ok layout) where

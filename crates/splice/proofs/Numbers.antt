@@ -3,16 +3,20 @@ use mathlib.Core.Path.{_≡_, refl, sym, ap, _∙_}
 use Prim.Native.Nat.{ℕ, zero, suc, _+_, _-_, _*_, _/_, _%_, _^_, _≤_, _<_}
 use native.Mathlib.Omega.{arith}
 use lib.Pow.{pow-pos, pow-add}
-use native.Mathlib.Nat.{div-eq-of-lt, div-lt-iff-lt-mul, one-mul, pow-suc, pow-le-pow-right, add-suc, add-zero, le-refl}
+use native.Mathlib.Nat.{div-eq-of-lt, div-lt-iff-lt-mul, one-mul, pow-suc, pow-le-pow-right, add-suc}
 use native.Mathlib.Numerals.{add-one}
 use mathlib.Core.List.{List, [], _∷_, _++_, append-assoc, append-nil}
-use lib.ListN.{length, take, drop, getD, set, length-set, length-append, length-drop, drop-of-length-le}
+use lib.ListN.{length, take, drop, getD, set, length-set, length-append, drop-of-length-le}
 use lib.Seq.{drop-cons, drop-set-lt, drop-length, drop-append-le, take-all, getD-set-same}
 use mathlib.Core.Bool.{Bool, true, false}
 use lib.Dec.{leb, ltb}
 use borrow.Author.Tests.{le-leb, lt-leb, lt-ltb, le-ltb, leb-true, leb-false, ltb-true}
-use Rattle.refusal.specs.Answer.{gives, refuses, pick, Test}
+use Rattle.refusal.specs.Answer.{Answer, gives, refuses, pick, Test}
 use Rattle.refusal.proofs.Laws.{gives-or-refuses}
+use Rattle.refusal.proofs.Once.{refusalOf-refused, untold, one-told}
+use Rattle.splice.specs.Told.{toldNumber}
+use Rattle.splice.specs.declared.number.Number.{Number}
+use Rattle.splice.specs.declared.number.Number.the-variants.{Is, Refused}
 use Rattle.splice.specs.Number.{beFrom, ofBe, beBytes, readBe, numberTest}
 
 -- one byte more, at the place i
@@ -143,3 +147,12 @@ last-bytes x k b h e =
     let n : 8 - k + k ≡ 8 = omega arith in
     let g : drop (8 - k) b ≡ beBytes k x = ap (drop (8 - k)) (e ∙ ap (λ (j : ℕ). beBytes j x) (sym n)) ∙ beBytes-drop (8 - k) k x in
     ap (take (8 - (8 - k))) g ∙ take-all (8 - (8 - k)) (beBytes k x) (omega (arith, length-be k x))
+
+-- ---- ONE ANSWER: of `read`
+
+pub one-number : (x : Answer ℕ) (a b : Number) → toldNumber a ≡ x → toldNumber b ≡ x → a ≡ b
+one-number = one-told toldNumber Is Refused back
+  where
+    back : (a : Number) → untold Is Refused (toldNumber a) ≡ a
+    back (Is x) = refl
+    back (Refused r) = ap Refused (refusalOf-refused r)

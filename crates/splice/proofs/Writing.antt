@@ -3,13 +3,16 @@ use mathlib.Core.Path.{_≡_, refl, sym, ap, _∙_}
 use Prim.Native.Nat.{ℕ, _+_, _-_, _≤_, _<_}
 use native.Mathlib.Omega.{arith}
 use native.Mathlib.Nat.{sub-zero}
+use mathlib.Core.Logic.{_↔_}
+use mathlib.Core.Bool.{Bool, true, false}
 use mathlib.Core.List.{List, [], _∷_, _++_}
+use lib.Dec.{leb}
 use lib.ListN.{length, drop}
-use borrow.Author.Tests.{le-leb, lt-leb}
-use Rattle.refusal.specs.Answer.{Answer, gives, refuses, mapA, also, Test, placeTest}
+use borrow.Author.Tests.{le-leb, lt-leb, leb-true, leb-false}
+use Rattle.refusal.specs.Answer.{Answer, gives, refuses, mapA, also, Test}
 use Rattle.refusal.specs.Told.{toldWritten}
 use Rattle.refusal.specs.declared.Written.{Written}
-use Rattle.refusal.proofs.Laws.{also-passed, also-refused, placeTest-in, placeTest-out}
+use Rattle.refusal.proofs.Laws.{gives-same, gives-or-refuses, mapped-by, also-passed, also-refused, also-both, placeTest-in, placeTest-out}
 use Rattle.refusal.proofs.Once.{one-written}
 use Rattle.splice.specs.Laid.{laid}
 use Rattle.splice.specs.Writing.{roomFor, roomAt, leaves, Wrote}
@@ -62,6 +65,40 @@ pub wrote-laid : (at : ℕ) (bs old new : List ℕ) {told : Answer ℕ} → at +
 wrote-laid at bs old new h w =
     w .bytes
     ∙ ap (λ (a : Answer (List ℕ)). leaves at a old) (roomAt-there at (length old) bs (omega arith) ∙ roomFor-in (length old - at) bs (omega arith))
+
+-- ---- what a writer gives that tests and then sees to the room: its bytes, exactly where the test is passed and there is room
+
+pub gives-room : (test : Test) (n : ℕ) (bytes bs : List ℕ) → (also test (roomFor n bytes) ≡ gives bs) ↔ ((gives tt ≡ test) × (length bytes ≤ n) × (bs ≡ bytes))
+gives-room test n bytes bs = (only, made)
+  where
+    room : (t : Bool) → leb (length bytes) n ≡ t → gives bs ≡ roomFor n bytes → (length bytes ≤ n) × (bs ≡ bytes)
+    room true p e = (leb-true _ _ p, gives-same bs bytes (e ∙ roomFor-in n bytes (leb-true _ _ p)))
+    room false p e = absurd (gives-or-refuses bs 2 (n ∷ length bytes ∷ []) (e ∙ roomFor-out n bytes (leb-false _ _ p)))
+
+    only : also test (roomFor n bytes) ≡ gives bs → (gives tt ≡ test) × (length bytes ≤ n) × (bs ≡ bytes)
+    only e =
+        let b = also-both test (roomFor n bytes) bs (sym e) in
+        let r = room (leb (length bytes) n) refl (b .1) in
+        (b .0, r .0, r .1)
+
+    made : (gives tt ≡ test) × (length bytes ≤ n) × (bs ≡ bytes) → also test (roomFor n bytes) ≡ gives bs
+    made h = also-passed test (roomFor n bytes) (h .0) ∙ roomFor-in n bytes (h .1) ∙ ap gives (sym (h .2))
+
+-- and what such a writer leaves: its bytes, then the old rest
+pub record Left (test : Test) (bs old new : List ℕ) : Type 0 where
+  pub passed : gives tt ≡ test
+  pub room : length bs ≤ length old
+  pub bytes : new ≡ bs ++ drop (length bs) old
+
+pub left-by : (test : Test) (bs old new : List ℕ) (k : ℕ) → Wrote 0 (also test (roomFor (length old) bs)) (gives k) old new → Left test bs old new
+left-by test bs old new k w =
+    let m = mapped-by length (also test (roomFor (length old) bs)) k (sym (w .answer)) in
+    let g = gives-room test (length old) bs (m .0) .0 (m .1) in
+    record {
+      passed = g .0;
+      room = g .1;
+      bytes = w .bytes ∙ ap (λ (a : Answer (List ℕ)). leaves 0 a old) (m .1 ∙ ap gives (g .2)) ∙ laid-front bs old;
+    }
 
 -- ---- ONE ANSWER, AND ONE BUFFER
 
