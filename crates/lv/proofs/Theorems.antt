@@ -21,12 +21,12 @@ use Rattle.splice.specs.Laid.{sameBytes}
 use Rattle.splice.specs.Writing.{Wrote}
 use Rattle.splice.proofs.Laws.{same-equal}
 use Rattle.splice.proofs.Writing.{gives-room, left-by}
-use Rattle.lv.specs.Rules.{span, partOf, spanTest, takeLv, readLv, writeTest, writeLv, sameLv}
+use Rattle.lv.specs.Rules.{span, partOf, spanTest, lenFull, takeLv, readLv, writeTest, writeLv, sameLv}
 use Rattle.lv.specs.Told.{toldLv}
 use Rattle.lv.specs.declared.Lv.{Lv}
 use Rattle.lv.specs.declared.LvRead.{LvRead}
 use Rattle.lv.specs.declared.LvRead.the-variants.{Read, Refused}
-use Rattle.lv.proofs.Laws.{partOf-in, spanTest-in, spanTest-passed, takeLv-whole, sound, writeTest-passed, sameLv-passed}
+use Rattle.lv.proofs.Laws.{partOf-in, length-partOf, lenFull-in, spanTest-in, spanTest-passed, takeLv-whole, sound, writeTest-passed, sameLv-passed}
 
 -- ---- READING: exactly the standard's LVs
 
@@ -122,6 +122,13 @@ writes l src n bs = (
       let t = writeTest-passed l src (h .0) (h .1) in
       gives-room (writeTest l src) n (lv (partOf l src)) bs .1 (t, omega (arith, sound l src t .size, h .2), h .3),
 )
+
+-- the length told is the length written
+pub written-length : (l : Lv) (src : List ℕ) (n : ℕ) (bs : List ℕ) → writeLv l src n ≡ gives bs → lenFull l ≡ gives (length bs)
+written-length l src n bs e =
+    let w = writes l src n bs .0 e in
+    let k : l .len + 1 ≡ length bs = sym (ap length (w .3) ∙ ap suc (length-partOf l src (w .1)) ∙ sym (add-one (l .len))) in
+    lenFull-in l (w .0) ∙ ap gives k
 
 -- what the writer leaves is the LV, then the old rest; and reading it gives the value back
 pub record Back (l : Lv) (src old new : List ℕ) : Type 0 where

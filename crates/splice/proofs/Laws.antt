@@ -158,3 +158,27 @@ module _ (a b : List ℕ) (i : ℕ) (h : i < length a) (k : i < length b) where
 
   pub same-off : (getD a i 0 ≡ getD b i 0 → ⊥) → sameBytes (take (i + 1) a) (take (i + 1) b) ≡ false
   same-off e = same-next ∙ rw (ne-eqb _ _ e) (and-false (sameBytes (take i a) (take i b)))
+
+-- the first k of two lists of one length, and then all behind their first m, where m is at most k
+module _ (a b : List ℕ) (k m : ℕ) (n : length a ≡ length b) (h : m ≤ k) where
+  pub same-first : sameBytes (take k a) (take k b) ≡ false → sameBytes a b ≡ false
+  same-first e = go (sameBytes a b) refl
+    where
+      go : (t : Bool) → sameBytes a b ≡ t → sameBytes a b ≡ false
+      go true p = let z : _≡_ {A = Bool} true false = sym (same-equal (take k a) (take k b) .1 (ap (take k) (same-equal a b .0 p))) ∙ e in cc
+      go false p = p
+
+  pub same-last : sameBytes (take k a) (take k b) ≡ true → sameBytes a b ≡ sameBytes (drop m a) (drop m b)
+  same-last e = go (sameBytes (drop m a) (drop m b)) refl
+    where
+      front : take m a ≡ take m b
+      front = sym (take-take m k a h) ∙ ap (take m) (same-equal (take k a) (take k b) .0 e) ∙ take-take m k b h
+
+      go : (t : Bool) → sameBytes (drop m a) (drop m b) ≡ t → sameBytes a b ≡ sameBytes (drop m a) (drop m b)
+      go true p =
+          same-equal a b .1 (sym (take-append-drop m a) ∙ (λ i. front i ++ same-equal (drop m a) (drop m b) .0 p i) ∙ take-append-drop m b) ∙ sym p
+      go false p = back (sameBytes a b) refl ∙ sym p
+        where
+          back : (t : Bool) → sameBytes a b ≡ t → sameBytes a b ≡ false
+          back true q = let z : _≡_ {A = Bool} true false = sym (same-equal (drop m a) (drop m b) .1 (ap (drop m) (same-equal a b .0 q))) ∙ p in cc
+          back false q = q

@@ -1,70 +1,67 @@
--- `splice::same` meets its contract. The loop's invariant: the flag is 0 as long as the first i bytes are the same. Assumes nothing.
-use mathlib.Core.Path.{_≡_, sym, ap, _∙_}
-use Prim.Native.Nat.{ℕ, _-_, _≤_, _<_}
-use native.Mathlib.Omega.{arith}
-use mathlib.Core.Logic.{⊎-elim}
-use lib.ListN.{length, take}
-use lib.Seq.{take-length}
-use lib.Dec.{eqb}
-use Rattle.splice.specs.Laid.{sameBytes}
-use Rattle.splice.proofs.Laws.{same-lengths, same-none, same-on, same-off}
+-- `splice::same` meets its contract: lists of two lengths differ, and else the first and the last bytes are compared. Assumes nothing.
+use mathlib.Core.Path.{sym}
+use Rattle.splice.proofs.Laws.{same-lengths}
+use borrow.Author.Needs.{needs}
 use Rattle.splice.proofs.same.Statement.{statement}
 use Rattle.splice.proofs.same.Tie as tie
 
-abbrev Inv-loop : tie.InvT-loop
-Inv-loop a b differ₀ i₀ differ i = (i ≤ length a) × (length a ≡ length b) × (eqb differ 0 ≡ sameBytes (take i a) (take i b))
-
-abbrev μ-loop : tie.MeasureT-loop
-μ-loop a b differ₀ i₀ differ i = length a - i
-
-returns : tie.Need-returns Inv-loop μ-loop
+returns : tie.Need-returns
 returns c = sym (same-lengths _ _ (c .if1 .taken))
 
-loop-holds : tie.Need-loop-holds Inv-loop μ-loop
-loop-holds c = (omega arith, c .if1 .left, sym same-none)
+sub-alike-ends : tie.Need-sub-alike-ends
+sub-alike-ends c = search needs
 
-shared-slice-read-if2 : tie.Need-shared-slice-read-if2 Inv-loop μ-loop
-shared-slice-read-if2 c = omega arith
+alike-ends-requires : tie.Need-alike-ends-requires
+alike-ends-requires c κs = search needs
 
-shared-slice-read-if2-2 : tie.Need-shared-slice-read-if2-2 Inv-loop μ-loop
-shared-slice-read-if2-2 c = omega arith
+returns-2 : tie.Need-returns-2
+returns-2 c = search needs
 
-add-i : tie.Need-add-i Inv-loop μ-loop
-add-i c = omega arith
+alike-ends-requires-2 : tie.Need-alike-ends-requires-2
+alike-ends-requires-2 c κs = search needs
 
-loop-less : tie.Need-loop-less Inv-loop μ-loop
-loop-less c = omega arith
+returns-3 : tie.Need-returns-3
+returns-3 c = search needs
 
-loop-again : tie.Need-loop-again Inv-loop μ-loop
-loop-again c =
-    let l = c .before .before .before .before .loop in
-    let s = c .before .before .before .before .before .before .args in
-    let h : l .i < length (s .a .now) = omega arith in
-    let k : l .i < length (s .b .now) = omega arith in (
-      omega arith,
-      l .inv .1,
-      ⊎-elim (λ w. ap (λ (d : ℕ). eqb d 0) (w .1) ∙ sym (same-off _ _ _ h k (w .0 .taken))) (λ w. ap (λ (d : ℕ). eqb d 0) (w .1) ∙ l .inv .2 ∙ sym (same-on _ _ _ h k (w .0 .left))) (c .if2 .came),
-    )
+alike-ends-requires-3 : tie.Need-alike-ends-requires-3
+alike-ends-requires-3 c κs = search needs
 
-returns-2 : tie.Need-returns-2 Inv-loop μ-loop
-returns-2 c =
-    let l = c .before .loop in
-    let s = c .before .before .before .args in
-    let n : l .i ≡ length (s .a .now) = omega arith in
-    let m : l .i ≡ length (s .b .now) = omega arith in
-    l .inv .2 ∙ (λ i. sameBytes ((ap (λ (k : ℕ). take k (s .a .now)) n ∙ take-length (s .a .now)) i) ((ap (λ (k : ℕ). take k (s .b .now)) m ∙ take-length (s .b .now)) i))
+returns-4 : tie.Need-returns-4
+returns-4 c = search needs
+
+alike-ends-requires-4 : tie.Need-alike-ends-requires-4
+alike-ends-requires-4 c κs = search needs
+
+returns-5 : tie.Need-returns-5
+returns-5 c = search needs
+
+alike-ends-requires-5 : tie.Need-alike-ends-requires-5
+alike-ends-requires-5 c κs = search needs
+
+returns-6 : tie.Need-returns-6
+returns-6 c = search needs
+
+alike-requires : tie.Need-alike-requires
+alike-requires c κs = search needs
+
+returns-7 : tie.Need-returns-7
+returns-7 c = search needs
 
 pub same-spec : {M : Type 1} → statement M
 same-spec =
     tie.close
     (tie.spec
-    Inv-loop
-    μ-loop
     returns
-    loop-holds
-    shared-slice-read-if2
-    shared-slice-read-if2-2
-    add-i
-    loop-less
-    loop-again
-    returns-2)
+    sub-alike-ends
+    alike-ends-requires
+    returns-2
+    alike-ends-requires-2
+    returns-3
+    alike-ends-requires-3
+    returns-4
+    alike-ends-requires-4
+    returns-5
+    alike-ends-requires-5
+    returns-6
+    alike-requires
+    returns-7)
