@@ -9,9 +9,9 @@ use lib.Seq.{length-take-le, take-length, slice, slice-cons, length-slice}
 use lib.Dec.{leb}
 use borrow.Author.Tests.{le-leb, lt-leb, leb-true}
 use Rattle.bluebook.specs.Layouts.{lv}
-use Rattle.refusal.specs.Answer.{Answer, gives, refuses, mapA, also}
+use Rattle.refusal.specs.Answer.{Answer, gives, refuses, mapA, also, placeTest}
 use Rattle.refusal.specs.Reader.{took}
-use Rattle.refusal.proofs.Laws.{also-passed, also-refused, also-both, pick-passed, placeTest-in, placeTest-out}
+use Rattle.refusal.proofs.Laws.{also-passed, also-refused, also-both, pick-passed, placeTest-in, placeTest-out, placeTest-passed}
 use Rattle.splice.specs.Laid.{laid, sameBytes}
 use Rattle.splice.specs.Writing.{roomAt, Wrote}
 use Rattle.splice.proofs.Laws.{laid-cons}
@@ -130,6 +130,14 @@ module _ (bs : List ℕ) (at end : ℕ) where
         readLvAt-in (omega arith)
         ∙ ap (mapA _) (ap takeLv s ∙ takeLv-whole (getD bs at 0) (slice (suc at) end bs) j)
         ∙ ap (λ (m : ℕ). gives (span (at + 1) m)) (length-take-le (getD bs at 0) (slice (suc at) end bs) j)
+
+-- what is given was read between places of the buffer
+pub readLvAt-places : (bs : List ℕ) (at end : ℕ) (l : Lv) → readLvAt bs at end ≡ gives l → (at ≤ end) × (end ≤ length bs)
+unfolding readLvAt
+readLvAt-places bs at end l e =
+    let a = also-both (placeTest end (length bs)) _ l (sym e) in
+    let b = also-both (placeTest at end) _ l (a .1) in
+    (placeTest-passed at end (b .0), placeTest-passed end (length bs) (a .0))
 
 -- all of a buffer
 pub readLvAt-all : (bs : List ℕ) → readLvAt bs 0 (length bs) ≡ readLv bs

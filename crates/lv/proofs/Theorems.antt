@@ -1,32 +1,32 @@
 -- WHAT THE RULES OF THE LV MEAN: the reader and the writer against the standard's LV, comparing, and that each contract allows one answer.
 -- Assumes nothing.
 use mathlib.Core.Path.{_≡_, refl, sym, ap, subst, _∙_}
-use Prim.Native.Nat.{ℕ, suc, _+_, _≤_, _<_}
+use Prim.Native.Nat.{ℕ, suc, _+_, _-_, _≤_, _<_}
 use native.Mathlib.Omega.{arith}
 use native.Mathlib.Numerals.{add-one}
 use mathlib.Core.Logic.{_↔_}
 use mathlib.Core.Bool.{Bool, true, false}
 use mathlib.Core.List.{List, [], _∷_, _++_}
-use lib.ListN.{length, take, drop, getD, length-append, take-append-drop, List·getD-append, List·getD-eq-default}
-use lib.Seq.{length-take-le, take-append-seam, drop-append-seam, drop-at}
+use lib.ListN.{length, take, drop, getD, length-append, length-drop, take-append-drop, List·getD-append, List·getD-eq-default}
+use lib.Seq.{length-take-le, take-append-seam, take-append-le, drop-append-seam, drop-append-le, drop-at, drop-drop, slice, length-slice}
 use lib.Dec.{leb, ltb}
 use borrow.Author.Tests.{leb-true, ltb-true, ltb-false}
 use Rattle.bluebook.specs.Layouts.{Octets, Value, lv}
 use Rattle.refusal.specs.Answer.{Answer, gives, refuses, pick}
 use Rattle.refusal.specs.Reader.{Took, took, Exactly, Any, Begins}
-use Rattle.refusal.proofs.Laws.{gives-same, gives-or-refuses, also-both}
+use Rattle.refusal.proofs.Laws.{gives-same, gives-or-refuses, mapped-by, also-both}
 use Rattle.refusal.proofs.Once.{refusalOf-refused, untold, one-told}
 use Rattle.refusal.proofs.Readers.{answers}
 use Rattle.splice.specs.Laid.{sameBytes}
 use Rattle.splice.specs.Writing.{Wrote}
 use Rattle.splice.proofs.Laws.{same-equal}
 use Rattle.splice.proofs.Writing.{gives-room, left-by}
-use Rattle.lv.specs.Rules.{span, partOf, spanTest, lenFull, takeLv, readLv, writeTest, writeLv, sameLv}
+use Rattle.lv.specs.Rules.{span, partOf, spanTest, lenFull, takeLv, readLv, readLvAt, writeTest, writeLv, sameLv}
 use Rattle.lv.specs.Told.{toldLv}
 use Rattle.lv.specs.declared.Lv.{Lv}
 use Rattle.lv.specs.declared.LvRead.{LvRead}
 use Rattle.lv.specs.declared.LvRead.the-variants.{Read, Refused}
-use Rattle.lv.proofs.Laws.{partOf-in, length-partOf, lenFull-in, spanTest-in, spanTest-passed, takeLv-whole, sound, writeTest-passed, sameLv-passed}
+use Rattle.lv.proofs.Laws.{partOf-in, length-partOf, readLvAt-in, readLvAt-places, lenFull-in, spanTest-in, spanTest-passed, takeLv-whole, sound, writeTest-passed, sameLv-passed}
 
 -- ---- READING: exactly the standard's LVs
 
@@ -88,6 +88,53 @@ selected bs l e =
       size = ap length p ∙ sym m;
       inside = omega (arith, ap length s, length-append (lv v) (a .1 .rest));
     }
+
+-- what is known of an LV that `read_at` gave: between the two places stands the LV of a value and then the rest, and the span selects that value
+pub record ReadAt (bs : List ℕ) (at end : ℕ) (l : Lv) : Type 0 where
+  pub value : List ℕ
+  pub places : (at ≤ end) × (end ≤ length bs)
+  pub span-is : l ≡ span (at + 1) (length value)
+  pub inside : l .start + l .len ≤ end
+  pub split : slice at end bs ≡ lv value ++ slice (l .start + l .len) end bs
+  pub selects : partOf l bs ≡ value
+
+pub read-at : (bs : List ℕ) (at end : ℕ) (l : Lv) → readLvAt bs at end ≡ gives l → ReadAt bs at end l
+read-at bs at end l e =
+    let p = readLvAt-places bs at end l e in
+    let m = mapped-by (λ t. span (at + 1) (length (t .got))) (takeLv (slice at end bs)) l (sym (readLvAt-in bs at end (p .1) (p .0)) ∙ e) in
+    let v = m .0 .got in
+    let rest = m .0 .rest in
+    let s : slice at end bs ≡ lv v ++ rest = exactly-lv .only (slice at end bs) (m .0) (m .1) .1 in
+    let q : l .start ≡ at + 1 = ap (λ (x : Lv). x .start) (sym (m .2)) in
+    let k : l .len ≡ length v = ap (λ (x : Lv). x .len) (sym (m .2)) in
+    let n : length (slice at end bs) ≡ end - at = length-slice at end bs (p .1) in
+    let w : l .start + l .len ≤ end = omega (arith, ap length s, length-append (lv v) rest) in
+    let j : at + length (lv v) ≡ l .start + l .len = omega arith in
+    let d : drop (at + 1) (take end bs) ≡ v ++ rest = sym (drop-drop 1 at (take end bs)) ∙ ap (drop 1) s in
+    record {
+      value = v;
+      places = p;
+      span-is = sym (m .2);
+      inside = w;
+      split =
+          s
+          ∙ ap (λ (r : List ℕ). lv v ++ r)
+          (sym (drop-append-seam (lv v) rest) ∙ ap (drop (length (lv v))) (sym s) ∙ drop-drop (length (lv v)) at (take end bs) ∙ ap (λ (i : ℕ). drop i (take end bs)) j);
+      selects =
+          partOf-in l bs (omega arith)
+          ∙ (λ i. take (k i) (drop (q i) bs))
+          ∙ part-before bs (at + 1) (length v) end (omega arith) (p .1)
+          ∙ ap (take (length v)) d
+          ∙ take-append-seam v rest;
+    }
+  where
+    -- a part that ends before a place is a part of what stands before it
+    part-before : (bs : List ℕ) (m k end : ℕ) → m + k ≤ end → end ≤ length bs → take k (drop m bs) ≡ take k (drop m (take end bs))
+    part-before bs m k end h g =
+        let n : length (take end bs) ≡ end = length-take-le end bs g in
+        ap (λ (l : List ℕ). take k (drop m l)) (sym (take-append-drop end bs))
+        ∙ ap (take k) (drop-append-le m (take end bs) (drop end bs) (omega arith))
+        ∙ take-append-le k (drop m (take end bs)) (drop end bs) (omega (arith, length-drop m (take end bs)))
 
 -- ---- a buffer holds octets, and so every value that is read is one that an LV can hold
 

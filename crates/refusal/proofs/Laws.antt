@@ -4,7 +4,8 @@ use Prim.Native.Nat.{ℕ, _≤_, _<_}
 use native.Mathlib.Omega.{arith}
 use mathlib.Core.Bool.{Bool, true, false}
 use mathlib.Core.List.{List, [], _∷_}
-use borrow.Author.Tests.{le-leb, lt-leb}
+use lib.Dec.{leb}
+use borrow.Author.Tests.{le-leb, lt-leb, leb-true}
 use Rattle.refusal.specs.Answer.{Answer, gives, refuses, pick, mapA, also, Test, placeTest}
 
 -- ---- what is given
@@ -56,3 +57,7 @@ placeTest-in place n h = simp (le-leb _ _ h)
 pub placeTest-out : (place n : ℕ) → n < place → placeTest place n ≡ refuses 15 (place ∷ [])
 unfolding placeTest
 placeTest-out place n h = simp (lt-leb _ _ h)
+
+pub placeTest-passed : (place n : ℕ) → gives tt ≡ placeTest place n → place ≤ n
+unfolding placeTest
+placeTest-passed place n e = leb-true _ _ (pick-passed (leb place n) 15 (place ∷ []) e)
