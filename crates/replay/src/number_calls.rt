@@ -1,10 +1,9 @@
-// The calls of `splice::number`, by the kinds of their arguments.
+// The calls of `number`, by the kinds of their arguments.
 use crate::answers;
 use crate::answers::Answer;
 use crate::args;
 use crate::args::Args;
 use crate::names;
-use splice::number;
 
 // BYTES
 fn from_slice(call: usize, a: &[u8]) -> Answer {

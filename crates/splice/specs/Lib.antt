@@ -1,4 +1,2 @@
 pub mod Laid
-pub mod Number
-pub mod Told
 pub mod Writing

@@ -8,8 +8,6 @@ ghost use Rattle.refusal.specs.Told.{toldWritten};
 ghost use Rattle.splice.specs.Laid.{laid, sameBytes};
 ghost use Rattle.splice.specs.Writing.{roomAt, Wrote};
 
-pub mod number;
-
 // Copies all of src over dst from the place at on, through an array of its own. That no store to the array can touch src, and none to dst
 // the array, lets LLVM see two copies, join them into one `memmove` and drop the array; of a constant length it is plain loads and stores.
 fn through(dst: &mut [u8], at: usize, src: &[u8])
@@ -51,28 +49,12 @@ fn ends(dst: &mut [u8], at: usize, src: &[u8], w: usize)
     through(dst, at + m, &src[m..]);
 }
 
-// The same, whatever the length: the way that is fastest for it.
-fn lay(dst: &mut [u8], at: usize, src: &[u8])
-    requires { ⌜ at + length (now src) ≤ length (now dst) ⌝ }
+// The same, where src has fewer than 8 bytes.
+fn few(dst: &mut [u8], at: usize, src: &[u8])
+    requires { ⌜ (length (now src) ≤ 7) × (at + length (now src) ≤ length (now dst)) ⌝ }
     ensures { λ _. ⌜ now (dst .exit) ≡ laid at (now (src .entry)) (now (dst .entry)) ⌝ }
 {
     let n = src.len();
-    if 32 < n {
-        if n <= 256 {
-            through(dst, at, src);
-        } else {
-            plain(dst, at, src);
-        }
-        return;
-    }
-    if 16 <= n {
-        ends(dst, at, src, 16);
-        return;
-    }
-    if 8 <= n {
-        ends(dst, at, src, 8);
-        return;
-    }
     if 4 <= n {
         ends(dst, at, src, 4);
         return;
@@ -86,6 +68,31 @@ fn lay(dst: &mut [u8], at: usize, src: &[u8])
         return;
     }
     through(dst, at, src);
+}
+
+// The same, whatever the length: the way that is fastest for it.
+fn lay(dst: &mut [u8], at: usize, src: &[u8])
+    requires { ⌜ at + length (now src) ≤ length (now dst) ⌝ }
+    ensures { λ _. ⌜ now (dst .exit) ≡ laid at (now (src .entry)) (now (dst .entry)) ⌝ }
+{
+    let n = src.len();
+    if 256 < n {
+        plain(dst, at, src);
+        return;
+    }
+    if 32 < n {
+        through(dst, at, src);
+        return;
+    }
+    if 16 <= n {
+        ends(dst, at, src, 16);
+        return;
+    }
+    if 8 <= n {
+        ends(dst, at, src, 8);
+        return;
+    }
+    few(dst, at, src);
 }
 
 // Copies all of src over dst from the place at on. 15 where the place is past the end, then 2, counted from the place.

@@ -14,10 +14,10 @@ use borrow.Author.Tests.{le-leb, lt-leb, lt-ltb, le-ltb, leb-true, leb-false, lt
 use Rattle.refusal.specs.Answer.{Answer, gives, refuses, pick, Test}
 use Rattle.refusal.proofs.Laws.{gives-or-refuses}
 use Rattle.refusal.proofs.Once.{refusalOf-refused, untold, one-told}
-use Rattle.splice.specs.Told.{toldNumber}
-use Rattle.splice.specs.declared.number.Number.{Number}
-use Rattle.splice.specs.declared.number.Number.the-variants.{Is, Refused}
-use Rattle.splice.specs.Number.{beFrom, ofBe, beBytes, readBe, numberTest}
+use Rattle.number.specs.Told.{toldNumber}
+use Rattle.number.specs.declared.Number.{Number}
+use Rattle.number.specs.declared.Number.the-variants.{Is, Refused}
+use Rattle.number.specs.Rules.{beFrom, ofBe, beBytes, readBe, numberTest}
 
 -- one byte more, at the place i
 pub beFrom-next : (v : List ℕ) (i x : ℕ) → i < length v → beFrom (x * 256 + getD v i 0) (drop (i + 1) v) ≡ beFrom x (drop i v)

@@ -2,8 +2,8 @@
 use Prim.Native.Nat.{ℕ}
 use Rattle.refusal.specs.Answer.{Answer, gives}
 use Rattle.refusal.specs.Told.{refused}
-use Rattle.splice.specs.declared.number.Number.{Number}
-use Rattle.splice.specs.declared.number.Number.the-variants.{Is, Refused}
+use Rattle.number.specs.declared.Number.{Number}
+use Rattle.number.specs.declared.Number.the-variants.{Is, Refused}
 
 abbrev pub toldNumber : Number → Answer ℕ
 toldNumber (Is x) = gives x

@@ -1,10 +1,10 @@
 -- `number::test` meets its contract: a number of fewer than 8 bytes fits where a shift by them leaves 0. Assumes nothing.
 use mathlib.Core.Path.{sym}
 use native.Mathlib.Omega.{arith}
-use Rattle.splice.proofs.Numbers.{numberTest-wide, numberTest-large, numberTest-fits, numberTest-eight}
+use Rattle.number.proofs.Laws.{numberTest-wide, numberTest-large, numberTest-fits, numberTest-eight}
 use borrow.Author.Needs.{needs}
-use Rattle.splice.proofs.number.test.Statement.{statement}
-use Rattle.splice.proofs.number.test.Tie as tie
+use Rattle.number.proofs.test.Statement.{statement}
+use Rattle.number.proofs.test.Tie as tie
 
 returns : tie.Need-returns
 returns c = sym (numberTest-wide _ _ (c .if1 .taken))

@@ -7,9 +7,9 @@ ghost use Prim.Native.Nat.{_+_, _≤_};
 ghost use lib.ListN.{length};
 ghost use Rattle.refusal.specs.Answer.{also};
 ghost use Rattle.refusal.specs.Told.{toldWritten, toldChecked};
-ghost use Rattle.splice.specs.Number.{ofBe, beBytes, readBe, numberTest};
-ghost use Rattle.splice.specs.Told.{toldNumber};
+ghost use Rattle.number.specs.Rules.{ofBe, beBytes, readBe, numberTest};
+ghost use Rattle.number.specs.Told.{toldNumber};
 ghost use Rattle.splice.specs.Writing.{roomAt, Wrote};
 
 // What reading a number answers.
 pub enum Number {
@@ -45,7 +45,7 @@ fn eight(v: &[u8]) -> u64
     ensures { λ r. ⌜ r ≡ ofBe (now (v .entry)) ⌝ }
 {
     let mut b = [0u8; 8];
-    crate::through(&mut b, 0, &v[..8]);
+    splice::put(&mut b, 0, &v[..8]);
     digits(&b)
 }
 
@@ -140,5 +140,5 @@ pub fn write(number: u64, width: usize, buf: &mut [u8], at: usize) -> Written
     }
     let b = bytes8(number);
     let m = 8 - width;
-    crate::put(buf, at, &b[m..])
+    splice::put(buf, at, &b[m..])
 }

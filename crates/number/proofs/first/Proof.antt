@@ -2,9 +2,9 @@
 use mathlib.Core.Path.{sym, ap, _∙_}
 use native.Mathlib.Omega.{arith}
 use lib.Seq.{length-take-le, take-all}
-use Rattle.splice.specs.Number.{ofBe}
-use Rattle.splice.proofs.number.first.Statement.{statement}
-use Rattle.splice.proofs.number.first.Tie as tie
+use Rattle.number.specs.Rules.{ofBe}
+use Rattle.number.proofs.first.Statement.{statement}
+use Rattle.number.proofs.first.Tie as tie
 
 slice-aggregate-digits : tie.Need-slice-aggregate-digits
 slice-aggregate-digits c = sym (length-take-le (c .before .before .args .w) (c .before .before .args .v .now) (omega arith))

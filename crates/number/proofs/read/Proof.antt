@@ -2,10 +2,10 @@
 use mathlib.Core.Path.{sym, ap, _∙_}
 use native.Mathlib.Omega.{arith}
 use Rattle.refusal.specs.Answer.{gives}
-use Rattle.splice.proofs.Numbers.{readBe-in, readBe-over}
+use Rattle.number.proofs.Laws.{readBe-in, readBe-over}
 use borrow.Author.Needs.{needs}
-use Rattle.splice.proofs.number.read.Statement.{statement}
-use Rattle.splice.proofs.number.read.Tie as tie
+use Rattle.number.proofs.read.Statement.{statement}
+use Rattle.number.proofs.read.Tie as tie
 
 returns : tie.Need-returns
 returns c = sym (readBe-over _ (omega arith))

@@ -3,10 +3,10 @@ use Prim.Native.Nat.{_+_, _-_, _≤_}
 use native.Mathlib.Omega.{arith}
 use mathlib.Core.List.{_++_}
 use lib.ListN.{length, drop, length-set}
-use Rattle.splice.specs.Number.{beBytes}
-use Rattle.splice.proofs.Numbers.{beBytes-next, beBytes-all, beBytes-none}
-use Rattle.splice.proofs.number.low.Statement.{statement}
-use Rattle.splice.proofs.number.low.Tie as tie
+use Rattle.number.specs.Rules.{beBytes}
+use Rattle.number.proofs.Laws.{beBytes-next, beBytes-all, beBytes-none}
+use Rattle.number.proofs.low.Statement.{statement}
+use Rattle.number.proofs.low.Tie as tie
 
 abbrev Inv-loop : tie.InvT-loop
 Inv-loop number buf₀ x₀ i₀ buf x i = (i ≤ length buf) × (length buf ≡ length buf₀) × (beBytes (length buf₀) number ≡ beBytes i x ++ drop i buf)

@@ -4,13 +4,13 @@ use Prim.Native.Nat.{_-_}
 use native.Mathlib.Omega.{arith}
 use lib.ListN.{take, drop}
 use Rattle.refusal.specs.Answer.{gives}
-use Rattle.splice.specs.Number.{beBytes, numberTest}
+use Rattle.number.specs.Rules.{beBytes, numberTest}
 use Rattle.refusal.specs.Told.{toldChecked}
 use Rattle.splice.proofs.Writing.{wrote-refused, wrote-passed}
-use Rattle.splice.proofs.Numbers.{numberTest-passed, last-bytes}
+use Rattle.number.proofs.Laws.{numberTest-passed, last-bytes}
 use borrow.Author.Needs.{needs}
-use Rattle.splice.proofs.number.write.Statement.{statement}
-use Rattle.splice.proofs.number.write.Tie as tie
+use Rattle.number.proofs.write.Statement.{statement}
+use Rattle.number.proofs.write.Tie as tie
 
 test-requires : tie.Need-test-requires
 test-requires c κs = search needs

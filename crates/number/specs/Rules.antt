@@ -1,4 +1,4 @@
--- Unsigned numbers, most significant byte first.
+-- Unsigned numbers, most significant byte first, and what each call answers, for all arguments.
 use Prim.Native.Nat.{ℕ, zero, suc, _+_, _*_, _/_, _%_, _^_}
 use mathlib.Core.List.{List, [], _∷_, _++_}
 use lib.ListN.{length}

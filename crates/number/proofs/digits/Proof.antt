@@ -2,10 +2,10 @@ use mathlib.Core.Path.{_≡_, refl, sym, _∙_}
 use Prim.Native.Nat.{_+_, _-_, _*_, _^_, _≤_, _<_}
 use native.Mathlib.Omega.{arith}
 use lib.ListN.{length, drop, getD}
-use Rattle.splice.specs.Number.{beFrom, ofBe}
-use Rattle.splice.proofs.Numbers.{beFrom-next, beFrom-done, next-fits}
-use Rattle.splice.proofs.number.digits.Statement.{statement}
-use Rattle.splice.proofs.number.digits.Tie as tie
+use Rattle.number.specs.Rules.{beFrom, ofBe}
+use Rattle.number.proofs.Laws.{beFrom-next, beFrom-done, next-fits}
+use Rattle.number.proofs.digits.Statement.{statement}
+use Rattle.number.proofs.digits.Tie as tie
 
 abbrev Inv-loop : tie.InvT-loop
 Inv-loop v x₀ i₀ x i = (i ≤ length v) × (x < 256 ^ i) × (beFrom x (drop i v) ≡ ofBe v)
