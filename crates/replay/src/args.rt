@@ -1,9 +1,5 @@
-// The arguments of a case: the words behind the call's name, read by their first letters.
-use crate::notation;
-use crate::notation::Filled;
+// The arguments of a case: the words behind the call's name, read by the letters that the list of calls has for them.
 use crate::text;
-use lv::Lv;
-use tlv::Tlv;
 use tlv::TlvType;
 use tlv::TlvTypeField;
 
@@ -13,56 +9,24 @@ pub enum Parsed {
     Bad,
 }
 
-// The arguments. `kinds` has a decimal digit for each, in order: 1 a number, 2 bytes, 3 a type field, 9 a word that is none of them.
-// The numbers stand in n in order, type fields among them: 0 to 6 the standard types, from 256 on the custom labels.
-// Of up to two bytes arguments a call is lent the bytes; a_len and b_len are their lengths.
+// The arguments. The first seven words have a number each, in order: a number as it is, a type field as 0 to 6 for the standard types and
+// 256 and more for the custom labels, bytes as the place of their x in the line. The places of the source and of the buffer stand beside;
+// where a call takes none, they are past the line.
 pub struct Args {
-    pub kinds: u64,
-    pub n: [u64; 8],
-    pub n_count: usize,
-    pub a_len: usize,
-    pub b_len: usize,
-    pub parts: usize,
+    pub call: usize,
+    pub n0: usize,
+    pub n1: usize,
+    pub n2: usize,
+    pub n3: usize,
+    pub n4: usize,
+    pub n5: usize,
+    pub n6: usize,
+    pub source: usize,
+    pub buffer: usize,
 }
 
-// The kinds that the calls take, N for a number, B for bytes, F for a type field.
-pub const NONE: u64 = 0;
-
-pub const N: u64 = 1;
-
-pub const B: u64 = 2;
-
-pub const F: u64 = 3;
-
-pub const NN: u64 = 11;
-
-pub const BB: u64 = 22;
-
-pub const NNN: u64 = 111;
-
-pub const NNB: u64 = 112;
-
-pub const BNN: u64 = 211;
-
-pub const BNB: u64 = 212;
-
-pub const FNN: u64 = 311;
-
-pub const NNBB: u64 = 1122;
-
-pub const NNBN: u64 = 1121;
-
-pub const FNNB: u64 = 3112;
-
-pub const NNBBN: u64 = 11221;
-
-pub const FNNBB: u64 = 31122;
-
-pub const NNBNNB: u64 = 112112;
-
-pub const FNNBFNNB: u64 = 31123112;
-
-const BAD: u64 = 9;
+// Stands for a call where the words are not those that the call takes.
+pub const NO_CALL: usize = 1000;
 
 // A number with one more decimal digit behind it.
 fn with_digit(x: u64, digit: u8) -> Parsed {
@@ -100,8 +64,22 @@ pub fn number(s: &[u8]) -> Parsed {
     Parsed::Is(x)
 }
 
-// The number of a standard type.
-fn standard(p: Parsed) -> Parsed {
+// A number up to 255, and more added to it.
+fn octet(p: Parsed, more: u8) -> Parsed {
+    let Parsed::Is(x) = p else {
+        return Parsed::Bad;
+    };
+    if 255 < x {
+        return Parsed::Bad;
+    }
+    Parsed::Is(x + more as u64 * 256)
+}
+
+// The number of a standard type, behind an s.
+fn standard(mark: u8, p: Parsed) -> Parsed {
+    if mark != b's' {
+        return Parsed::Bad;
+    }
     let Parsed::Is(x) = p else {
         return Parsed::Bad;
     };
@@ -111,155 +89,122 @@ fn standard(p: Parsed) -> Parsed {
     }
 }
 
-// The number of a custom label, 256 and more.
-fn custom(p: Parsed) -> Parsed {
-    let Parsed::Is(x) = p else {
-        return Parsed::Bad;
-    };
-    if 255 < x {
+// A word that begins with a mark: a type field, or the place of bytes.
+fn marked(letter: u8, word: &[u8], place: usize) -> Parsed {
+    if word.len() == 0 {
         return Parsed::Bad;
     }
-    Parsed::Is(256 + x)
+    let mark = word[0];
+    let p = number(&word[1..]);
+    match letter {
+        b'T' => standard(mark, p),
+        b'F' => {
+            if mark == b'c' {
+                octet(p, 1)
+            } else {
+                standard(mark, p)
+            }
+        }
+        _ => {
+            if mark == b'x' {
+                Parsed::Is(place as u64)
+            } else {
+                Parsed::Bad
+            }
+        }
+    }
+}
+
+// What a word at a place of the line stands for. The letters: N a number, O a number up to 255, F a type field, T a standard type,
+// S the bytes that are the source, B those that are the buffer.
+fn value(letter: u8, word: &[u8], place: usize) -> Parsed {
+    match letter {
+        b'N' => number(word),
+        b'O' => octet(number(word), 0),
+        _ => marked(letter, word, place),
+    }
 }
 
 impl Args {
-    // No arguments.
-    fn new() -> Args {
-        Args {
-            kinds: NONE,
-            n: [0u64; 8],
-            n_count: 0,
-            a_len: 0,
-            b_len: 0,
-            parts: 0,
+    // With the word of a letter, the one at the place k.
+    fn with(mut self, k: usize, letter: u8, p: Parsed) -> Args {
+        let Parsed::Is(number) = p else {
+            self.call = NO_CALL;
+            return self;
+        };
+        let x = number as usize;
+        match letter {
+            b'S' => self.source = x,
+            b'B' => self.buffer = x,
+            _ => {}
         }
-    }
-
-    // With one argument more. More than 17 are taken for a bad word.
-    fn with_kind(mut self, kind: u8) -> Args {
-        let kinds = self.kinds;
-        if kinds < 100000000000000000 {
-            self.kinds = kinds * 10 + kind as u64;
-        } else {
-            self.kinds = BAD;
+        match k {
+            0 => self.n0 = x,
+            1 => self.n1 = x,
+            2 => self.n2 = x,
+            3 => self.n3 = x,
+            4 => self.n4 = x,
+            5 => self.n5 = x,
+            6 => self.n6 = x,
+            _ => {}
         }
         self
     }
 
-    fn with_bad(self) -> Args {
-        self.with_kind(9)
-    }
-
-    // With a number, or a type field, in words.
-    fn with_number(mut self, kind: u8, p: Parsed) -> Args {
-        let Parsed::Is(x) = p else {
-            return self.with_bad();
+    // Reads the words behind the place from, where the line ends or has a space: one for each letter, no more and no less.
+    pub fn read(line: &[u8], from: usize, letters: &[u8], call: usize) -> Args {
+        let mut args = Args {
+            call,
+            n0: 0,
+            n1: 0,
+            n2: 0,
+            n3: 0,
+            n4: 0,
+            n5: 0,
+            n6: 0,
+            source: line.len(),
+            buffer: line.len(),
         };
-        let k = self.n_count;
-        if 7 < k {
-            return self.with_bad();
-        }
-        self.n[k] = x;
-        self.n_count = k + 1;
-        self.with_kind(kind)
-    }
-
-    // With the first bytes argument, and with the second.
-    fn with_first(mut self, f: Filled) -> Args {
-        let Filled::To(n) = f else {
-            return self.with_bad();
-        };
-        self.a_len = n;
-        self.parts = 1;
-        self.with_kind(2)
-    }
-
-    fn with_second(mut self, f: Filled) -> Args {
-        let Filled::To(n) = f else {
-            return self.with_bad();
-        };
-        self.b_len = n;
-        self.parts = 2;
-        self.with_kind(2)
-    }
-
-    // With bytes: the first go to a, the second to b.
-    fn with_bytes(self, s: &[u8], a: &mut [u8], b: &mut [u8]) -> Args {
-        let parts = self.parts;
-        match parts {
-            0 => self.with_first(notation::read(s, a)),
-            1 => self.with_second(notation::read(s, b)),
-            _ => self.with_bad(),
-        }
-    }
-
-    // With one word.
-    fn with_word(self, word: &[u8], a: &mut [u8], b: &mut [u8]) -> Args {
-        if word.len() == 0 {
-            return self.with_bad();
-        }
-        let first = word[0];
-        let rest = &word[1..];
-        match first {
-            b'x' => self.with_bytes(rest, a, b),
-            b's' => self.with_number(3, standard(number(rest))),
-            b'c' => self.with_number(3, custom(number(rest))),
-            _ => self.with_number(1, number(word)),
-        }
-    }
-
-    // The words from the place from on, where the line ends or has a space.
-    pub fn read(line: &[u8], from: usize, a: &mut [u8], b: &mut [u8]) -> Args {
-        let mut args = Args::new();
         let mut at = from;
-        while at < line.len() {
+        let mut k: usize = 0;
+        while k < letters.len() {
+            if line.len() <= at {
+                args.call = NO_CALL;
+                return args;
+            }
             let end = text::find(line, b' ', at + 1);
-            args = args.with_word(text::part(line, at + 1, end), a, b);
+            let letter = letters[k];
+            args = args.with(
+                k,
+                letter,
+                value(letter, text::part(line, at + 1, end), at + 1),
+            );
             at = end;
+            k += 1;
+        }
+        if at < line.len() {
+            args.call = NO_CALL;
         }
         args
     }
+}
 
-    // The number at a place of n.
-    pub fn number(self, k: usize) -> u64 {
-        if k < 8 {
-            return self.n[k];
-        }
-        0
+// The standard type of a number.
+pub fn type_of(x: usize) -> TlvType {
+    match x {
+        0 => TlvType::FilestoreRequest,
+        1 => TlvType::FilestoreResponse,
+        2 => TlvType::MsgToUser,
+        4 => TlvType::FaultHandler,
+        5 => TlvType::FlowLabel,
+        _ => TlvType::EntityId,
     }
+}
 
-    // The same as a place or a length.
-    pub fn size(self, k: usize) -> usize {
-        self.number(k) as usize
+// The type field of a number.
+pub fn field_of(x: usize) -> TlvTypeField {
+    if x < 256 {
+        return TlvTypeField::Standard(type_of(x));
     }
-
-    // The span of START LEN, the first of them at the place k.
-    pub fn span(self, k: usize) -> Lv {
-        Lv {
-            start: self.size(k),
-            len: self.size(text::sum(k, 1)),
-        }
-    }
-
-    // The type field at a place of n.
-    pub fn field(self, k: usize) -> TlvTypeField {
-        let x = self.number(k);
-        match x {
-            0 => TlvTypeField::Standard(TlvType::FilestoreRequest),
-            1 => TlvTypeField::Standard(TlvType::FilestoreResponse),
-            2 => TlvTypeField::Standard(TlvType::MsgToUser),
-            4 => TlvTypeField::Standard(TlvType::FaultHandler),
-            5 => TlvTypeField::Standard(TlvType::FlowLabel),
-            6 => TlvTypeField::Standard(TlvType::EntityId),
-            _ => TlvTypeField::Custom((x % 256) as u8),
-        }
-    }
-
-    // The TLV of FIELD START LEN, the first of them at the place k.
-    pub fn tlv(self, k: usize) -> Tlv {
-        Tlv {
-            tlv_type_field: self.field(k),
-            lv: self.span(text::sum(k, 1)),
-        }
-    }
+    TlvTypeField::Custom((x % 256) as u8)
 }

@@ -1,93 +1,53 @@
-// The calls of `lv`, by the kinds of their arguments.
+// The calls of `lv`. Of their arguments, a span of START LEN is two words.
 use crate::answers;
-use crate::answers::Answer;
-use crate::args;
 use crate::args::Args;
 use crate::names;
+use crate::notation;
 use lv::Lv;
+use lv::LvRead;
 
-// No arguments
-fn alone(call: usize) -> Answer {
+// Those that take no bytes.
+fn plain(call: usize, l: Lv) {
     match call {
-        names::NEW_EMPTY => answers::span(Lv::new_empty()),
-        _ => Answer::NoCall,
+        names::LV_NEW => answers::lv(Lv::new(l.start, l.len)),
+        names::LV_NEW_EMPTY => answers::lv(LvRead::Read(Lv::new_empty())),
+        names::LV_LEN_VALUE => answers::count(b"", l.len_value() as u64),
+        names::LV_LEN_FULL => answers::length(l.len_full()),
+        names::LV_IS_EMPTY => answers::truth(l.is_empty()),
+        names::LV_SIZE_TEST => answers::checked(l.size_test()),
+        _ => answers::bad(),
     }
 }
 
-// START LEN
-fn of_span(call: usize, l: Lv) -> Answer {
+// Those that take a source; two of them take places of it, and no span.
+fn of_source(call: usize, l: Lv, at: usize, end: usize, a: &[u8]) {
     match call {
-        names::NEW => answers::lv(Lv::new(l.start, l.len)),
-        names::LEN_VALUE => answers::size(l.len_value()),
-        names::LEN_FULL => answers::length(l.len_full()),
-        names::IS_EMPTY => answers::truth(l.is_empty()),
-        names::SIZE_TEST => answers::checked(l.size_test()),
-        _ => Answer::NoCall,
+        names::LV_VALUE => notation::say(l.value(a)),
+        names::LV_SPAN_TEST => answers::checked(l.span_test(a)),
+        names::LV_WRITE_TEST => answers::checked(l.write_test(a)),
+        names::LV_FROM_BYTES => answers::lv(Lv::from_bytes(a)),
+        names::LV_READ_AT => answers::lv(Lv::read_at(a, at, end)),
+        _ => plain(call, l),
     }
 }
 
-// START LEN BYTES
-fn in_buffer(call: usize, l: Lv, a: &[u8]) -> Answer {
+// a is the source, b the buffer, or the second source.
+pub fn made(args: Args, a: &[u8], b: &mut [u8]) {
+    let call = args.call;
+    let l = Lv {
+        start: args.n0,
+        len: args.n1,
+    };
     match call {
-        names::VALUE => Answer::Value(l),
-        names::SPAN_TEST => answers::checked(l.span_test(a)),
-        names::WRITE_TEST => answers::checked(l.write_test(a)),
-        _ => Answer::NoCall,
-    }
-}
-
-// START LEN BYTES START LEN BYTES
-fn of_two(call: usize, l: Lv, a: &[u8], m: Lv, b: &[u8]) -> Answer {
-    match call {
-        names::SAME => answers::sameness(l.same(a, m, b)),
-        _ => Answer::NoCall,
-    }
-}
-
-// START LEN SRC BUF
-fn to_slice(call: usize, l: Lv, a: &[u8], b: &mut [u8]) -> Answer {
-    match call {
-        names::WRITE_TO_SLICE => answers::wrote_second(l.write_to_slice(a, b)),
-        _ => Answer::NoCall,
-    }
-}
-
-// START LEN SRC BUF AT
-fn to_place(call: usize, l: Lv, a: &[u8], b: &mut [u8], at: usize) -> Answer {
-    match call {
-        names::WRITE_AT => answers::wrote_second(l.write_at(a, b, at)),
-        _ => Answer::NoCall,
-    }
-}
-
-// BYTES
-fn from_slice(call: usize, a: &[u8]) -> Answer {
-    match call {
-        names::FROM_BYTES => answers::lv(Lv::from_bytes(a)),
-        _ => Answer::NoCall,
-    }
-}
-
-// BYTES AT END
-fn from_place(call: usize, a: &[u8], at: usize, end: usize) -> Answer {
-    match call {
-        names::READ_AT => answers::lv(Lv::read_at(a, at, end)),
-        _ => Answer::NoCall,
-    }
-}
-
-pub fn made(call: usize, args: Args, a: &[u8], b: &mut [u8]) -> Answer {
-    let kinds = args.kinds;
-    let l = args.span(0);
-    match kinds {
-        args::NONE => alone(call),
-        args::NN => of_span(call, l),
-        args::NNB => in_buffer(call, l, a),
-        args::NNBNNB => of_two(call, l, a, args.span(2), b),
-        args::NNBB => to_slice(call, l, a, b),
-        args::NNBBN => to_place(call, l, a, b, args.size(2)),
-        args::B => from_slice(call, a),
-        args::BNN => from_place(call, a, args.size(0), args.size(1)),
-        _ => Answer::NoCall,
+        names::LV_WRITE_TO_SLICE => answers::wrote(l.write_to_slice(a, b), b),
+        names::LV_WRITE_AT => answers::wrote(l.write_at(a, b, args.n4), b),
+        names::LV_SAME => {
+            let m = Lv {
+                start: args.n3,
+                len: args.n4,
+            };
+            answers::sameness(l.same(a, m, b))
+        }
+        _ => of_source(call, l, args.n1, args.n2, a),
     }
 }

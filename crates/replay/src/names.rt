@@ -1,76 +1,102 @@
-// The names of the calls. A name stands for its place in a list, and a constant beside the list says which place is whose.
+// The calls by name. A call stands for its place in the list below, and a constant for each says which place is whose.
+// To add a call: its entry at the end of the list, its constant, and its arm in the *_calls module that `calls::made` picks for it.
+use crate::args::Args;
 use crate::text;
 
-// The part of a name before the dot.
-pub const LV: usize = 0;
+pub const LV_NEW: usize = 0;
 
-pub const TYPE: usize = 1;
+pub const LV_NEW_EMPTY: usize = 1;
 
-pub const TLV: usize = 2;
+pub const LV_LEN_VALUE: usize = 2;
 
-pub const SPLICE: usize = 3;
+pub const LV_LEN_FULL: usize = 3;
 
-pub const NUMBER: usize = 4;
+pub const LV_IS_EMPTY: usize = 4;
 
-pub fn family(name: &[u8]) -> usize {
-    text::place(name, b"lv|type|tlv|splice|number")
+pub const LV_SIZE_TEST: usize = 5;
+
+pub const LV_VALUE: usize = 6;
+
+pub const LV_SPAN_TEST: usize = 7;
+
+pub const LV_WRITE_TEST: usize = 8;
+
+pub const LV_WRITE_TO_SLICE: usize = 9;
+
+pub const LV_WRITE_AT: usize = 10;
+
+pub const LV_FROM_BYTES: usize = 11;
+
+pub const LV_READ_AT: usize = 12;
+
+pub const LV_SAME: usize = 13;
+
+pub const TYPE_TO_BYTE: usize = 14;
+
+pub const TYPE_FROM_BYTE: usize = 15;
+
+pub const TLV_NEW: usize = 16;
+
+pub const TLV_NEW_WITH_CUSTOM_TYPE: usize = 17;
+
+pub const TLV_NEW_EMPTY: usize = 18;
+
+pub const TLV_LEN_WRITTEN: usize = 19;
+
+pub const TLV_LEN_FULL: usize = 20;
+
+pub const TLV_LEN_VALUE: usize = 21;
+
+pub const TLV_IS_EMPTY: usize = 22;
+
+pub const TLV_TYPE_FIELD: usize = 23;
+
+pub const TLV_TYPE: usize = 24;
+
+pub const TLV_IS_STANDARD: usize = 25;
+
+pub const TLV_FROM_BYTES: usize = 26;
+
+pub const TLV_WRITE_TO_SLICE: usize = 27;
+
+pub const TLV_VALUE: usize = 28;
+
+pub const TLV_SPAN_TEST: usize = 29;
+
+pub const TLV_SAME: usize = 30;
+
+pub const SPLICE_PUT: usize = 31;
+
+pub const SPLICE_SAME: usize = 32;
+
+pub const NUMBER_READ: usize = 33;
+
+pub const NUMBER_TEST: usize = 34;
+
+pub const NUMBER_WRITE: usize = 35;
+
+// Reads a line: its name up to the first space, and its words by the letters that stand behind the name in the list.
+// The letters are told in args.
+pub fn read(line: &[u8]) -> Args {
+    read_by(
+        line,
+        b"lv.new NN|lv.new_empty |lv.len_value NN|lv.len_full NN|lv.is_empty NN|lv.size_test NN|lv.value NNS|\
+lv.span_test NNS|lv.write_test NNS|lv.write_to_slice NNSB|lv.write_at NNSBN|lv.from_bytes S|lv.read_at SNN|\
+lv.same NNSNNB|type.to_byte F|type.from_byte O|tlv.new TNN|tlv.new_with_custom_type ONN|tlv.new_empty T|\
+tlv.len_written FNN|tlv.len_full FNN|tlv.len_value FNN|tlv.is_empty FNN|tlv.tlv_type_field FNN|\
+tlv.tlv_type FNN|tlv.is_standard_tlv FNN|tlv.from_bytes S|tlv.write_to_slice FNNSB|tlv.value FNNS|\
+tlv.span_test FNNS|tlv.same FNNSFNNB|splice.put BNS|splice.same SB|number.read S|number.test NN|\
+number.write NNBN",
+    )
 }
 
-// The part behind the dot, whichever the family.
-pub const NEW: usize = 0;
-
-pub const NEW_EMPTY: usize = 1;
-
-pub const NEW_WITH_CUSTOM_TYPE: usize = 2;
-
-pub const LEN_VALUE: usize = 3;
-
-pub const LEN_FULL: usize = 4;
-
-pub const LEN_WRITTEN: usize = 5;
-
-pub const IS_EMPTY: usize = 6;
-
-pub const VALUE: usize = 7;
-
-pub const SPAN_TEST: usize = 8;
-
-pub const SIZE_TEST: usize = 9;
-
-pub const WRITE_TEST: usize = 10;
-
-pub const WRITE_TO_SLICE: usize = 11;
-
-pub const WRITE_AT: usize = 12;
-
-pub const FROM_BYTES: usize = 13;
-
-pub const READ_AT: usize = 14;
-
-pub const SAME: usize = 15;
-
-pub const TO_BYTE: usize = 16;
-
-pub const FROM_BYTE: usize = 17;
-
-pub const TLV_TYPE_FIELD: usize = 18;
-
-pub const TLV_TYPE: usize = 19;
-
-pub const IS_STANDARD_TLV: usize = 20;
-
-pub const PUT: usize = 21;
-
-pub const READ: usize = 22;
-
-pub const TEST: usize = 23;
-
-pub const WRITE: usize = 24;
-
-pub fn call(name: &[u8]) -> usize {
-    text::place(
-        name,
-        b"new|new_empty|new_with_custom_type|len_value|len_full|len_written|is_empty|value|span_test|size_test|write_test|\
-write_to_slice|write_at|from_bytes|read_at|same|to_byte|from_byte|tlv_type_field|tlv_type|is_standard_tlv|put|read|test|write",
-    )
+fn read_by(line: &[u8], list: &[u8]) -> Args {
+    let end = text::find(line, b' ', 0);
+    let e = text::looked_up(list, text::part(line, 0, end));
+    let from = e.from;
+    let to = e.to;
+    if to <= from {
+        return Args::read(line, end, text::part(list, 0, 0), e.place);
+    }
+    Args::read(line, end, text::part(list, from + 1, to), e.place)
 }

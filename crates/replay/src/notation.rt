@@ -5,16 +5,14 @@ use crate::args::Parsed;
 use crate::text;
 ghost use Prim.Native.Nat.{_≤_};
 
-// How many bytes stand in the buffer, or that the text is not in the notation, or that its bytes are too many.
-pub enum Filled {
-    To(usize),
-    Bad,
-}
+// A count of bytes that no buffer holds. It stands for text that is not in the notation, too.
+pub const TOO_MANY: usize = usize::MAX;
 
-// What a pair of digits says.
-enum Pair {
-    Is(u8),
-    Bad,
+// What the text says next: a byte, how often, and how much of the text that takes.
+struct Step {
+    x: u8,
+    count: usize,
+    used: usize,
 }
 
 // A hexadecimal digit's number, or 16.
@@ -27,60 +25,85 @@ fn nibble(x: u8) -> u8 {
     }
 }
 
-fn pair_of(high: u8, low: u8) -> Pair {
-    let h = nibble(high);
-    let l = nibble(low);
-    if 15 < h {
-        return Pair::Bad;
-    }
-    if 15 < l {
-        return Pair::Bad;
-    }
-    Pair::Is(h * 16 + l)
-}
-
-// The pair of digits at a place.
-fn pair_at(s: &[u8], at: usize) -> Pair {
-    if s.len() < 2 {
-        return Pair::Bad;
-    }
-    if s.len() - 2 < at {
-        return Pair::Bad;
-    }
-    pair_of(s[at], s[at + 1])
-}
-
-// A piece of pairs: one or more.
-fn pairs(s: &[u8], buf: &mut [u8], from: usize) -> Filled {
-    if s.len() == 0 {
-        return Filled::Bad;
-    }
-    if s.len() % 2 != 0 {
-        return Filled::Bad;
-    }
-    let mut n = from;
-    let mut i: usize = 0;
-    while i < s.len() / 2 {
-        let Pair::Is(x) = pair_at(s, 2 * i) else {
-            return Filled::Bad;
+// A byte that stands count times, and ends the piece: the text goes on behind the place of the dot, where one is there.
+fn piece(x: u8, count: usize, dot: usize, len: usize) -> Step {
+    if len <= dot {
+        return Step {
+            x,
+            count,
+            used: len,
         };
-        if buf.len() <= n {
-            return Filled::Bad;
-        }
-        buf[n] = x;
-        n += 1;
-        i += 1;
     }
-    Filled::To(n)
+    if len - dot == 1 {
+        return bad();
+    }
+    Step {
+        x,
+        count,
+        used: dot + 1,
+    }
 }
 
-// One byte, count times.
-fn repeated(x: u8, count: usize, buf: &mut [u8], from: usize) -> Filled {
+fn bad() -> Step {
+    Step {
+        x: 0,
+        count: TOO_MANY,
+        used: 1,
+    }
+}
+
+// The byte of two digits, with what follows them.
+fn behind(x: u8, s: &[u8]) -> Step {
+    if s.len() < 3 {
+        return piece(x, 1, 2, s.len());
+    }
+    let sign = s[2];
+    if sign == b'.' {
+        return piece(x, 1, 2, s.len());
+    }
+    if sign == b'*' {
+        let dot = text::find(s, b'.', 3);
+        let Parsed::Is(count) = args::number(text::part(s, 3, dot)) else {
+            return bad();
+        };
+        return piece(x, count as usize, dot, s.len());
+    }
+    // A star stands behind a piece's only pair.
+    if 4 < s.len() {
+        if s[4] == b'*' {
+            return bad();
+        }
+    }
+    Step {
+        x,
+        count: 1,
+        used: 2,
+    }
+}
+
+// What the text begins with.
+fn next(s: &[u8]) -> Step {
+    if s.len() < 2 {
+        return bad();
+    }
+    let high = nibble(s[0]);
+    let low = nibble(s[1]);
+    if 15 < high {
+        return bad();
+    }
+    if 15 < low {
+        return bad();
+    }
+    behind(high * 16 + low, s)
+}
+
+// One byte, count times, from the place from on. Answers how many bytes stand in buf then, or TOO_MANY.
+fn repeated(x: u8, count: usize, buf: &mut [u8], from: usize) -> usize {
     if buf.len() < from {
-        return Filled::Bad;
+        return TOO_MANY;
     }
     if buf.len() - from < count {
-        return Filled::Bad;
+        return TOO_MANY;
     }
     let end = from + count;
     let mut i = from;
@@ -88,46 +111,26 @@ fn repeated(x: u8, count: usize, buf: &mut [u8], from: usize) -> Filled {
         buf[i] = x;
         i += 1;
     }
-    Filled::To(end)
+    end
 }
 
-// A piece of either kind, read into buf from the place from on.
-fn piece(s: &[u8], buf: &mut [u8], from: usize) -> Filled {
-    let star = text::find(s, b'*', 0);
-    if s.len() <= star {
-        return pairs(s, buf, from);
-    }
-    if star != 2 {
-        return Filled::Bad;
-    }
-    let Pair::Is(x) = pair_at(s, 0) else {
-        return Filled::Bad;
-    };
-    let Parsed::Is(count) = args::number(&s[3..]) else {
-        return Filled::Bad;
-    };
-    repeated(x, count as usize, buf, from)
-}
-
-// Reads the pieces behind the `x` into buf.
-pub fn read(s: &[u8], buf: &mut [u8]) -> Filled {
-    if s.len() == 0 {
-        return Filled::To(0);
-    }
+// Reads the pieces behind the `x` into buf, and answers how many bytes they are, or TOO_MANY. No text says no bytes.
+pub fn read(s: &[u8], buf: &mut [u8]) -> usize {
     let mut n: usize = 0;
-    let mut at: usize = 0;
-    while at <= s.len() {
-        let end = text::find(s, b'.', at);
-        let Filled::To(k) = piece(text::part(s, at, end), buf, n) else {
-            return Filled::Bad;
-        };
-        n = k;
-        if s.len() <= end {
-            return Filled::To(n);
+    let mut at: usize = 1;
+    while at < s.len() {
+        let step = next(&s[at..]);
+        let used = step.used;
+        n = repeated(step.x, step.count, buf, n);
+        if s.len() - at < used {
+            return TOO_MANY;
         }
-        at = end + 1;
+        if used == 0 {
+            return TOO_MANY;
+        }
+        at += used;
     }
-    Filled::Bad
+    n
 }
 
 // The place of the first byte from the place from on that is not x, or the length.
@@ -144,47 +147,38 @@ fn run_end(s: &[u8], x: u8, from: usize) -> usize
     i
 }
 
-// What stands before the next byte that is said.
-const NOTHING: u8 = 0;
-
-const PAIRS: u8 = 1;
-
-const RUN: u8 = 2;
-
-// A dot, where one is due.
-fn dot(out: &mut [u8], at: usize, due: bool) -> usize {
-    if due {
-        return text::byte(out, at, b'.');
+// Says a byte that stands count times in a row: 5 times or more in a piece of its own. before is the count said before, 0 at the start.
+fn say_run(x: u8, count: usize, before: usize) {
+    if count < 5 {
+        if 4 < before {
+            io::write_all(libc::STDOUT_FILENO, b".");
+        }
+        io::print_hex(libc::STDOUT_FILENO, x as u64, 2);
+    } else {
+        if 0 < before {
+            io::write_all(libc::STDOUT_FILENO, b".");
+        }
+        io::print_hex(libc::STDOUT_FILENO, x as u64, 2);
+        io::write_all(libc::STDOUT_FILENO, b"*");
+        io::print_decimal(libc::STDOUT_FILENO, count as u64);
     }
-    at
-}
-
-// A run, in a piece of its own.
-fn run(out: &mut [u8], at: usize, x: u8, count: usize) -> usize {
-    let star = text::pair(out, at, x);
-    let times = text::byte(out, star, b'*');
-    text::number(out, times, count as u64)
 }
 
 // Says bytes in the one form that is given back: a run of 5 or more equal bytes is a piece of its own, the others stand as pairs.
-pub fn say(out: &mut [u8], at: usize, s: &[u8]) -> usize {
-    let mut fill = text::byte(out, at, b'x');
-    let mut before: u8 = NOTHING;
+pub fn say(s: &[u8]) {
+    io::write_all(libc::STDOUT_FILENO, b"x");
+    let mut before: usize = 0;
     let mut i: usize = 0;
     while i < s.len() {
         let x = s[i];
         let end = run_end(s, x, i + 1);
-        if end - i < 5 {
-            fill = dot(out, fill, before == RUN);
-            fill = text::pair(out, fill, x);
-            before = PAIRS;
+        let count = end - i;
+        say_run(x, count, before);
+        before = count;
+        if count < 5 {
             i += 1;
         } else {
-            fill = dot(out, fill, before != NOTHING);
-            fill = run(out, fill, x, end - i);
-            before = RUN;
             i = end;
         }
     }
-    fill
 }

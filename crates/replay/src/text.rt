@@ -1,6 +1,4 @@
-// Small steps on text: finding a byte, taking a part, and laying text behind what stands in the output.
-// Those that lay take the output and how many bytes stand in it, and answer how many stand in it now. What has no room is left out.
-use refusal::Written;
+// Small steps on text: finding a byte, taking a part, finding an entry of a list.
 ghost use Prim.Native.Nat.{_≤_};
 
 // The place of the first byte `what` from the place from on, or the length where there is none.
@@ -28,96 +26,40 @@ pub fn part(s: &[u8], start: usize, end: usize) -> &[u8] {
     &s[start..end]
 }
 
-// The bytes behind a place, or none where there is no such place.
-pub fn rest(s: &[u8], at: usize) -> &[u8] {
-    if s.len() <= at {
-        return &s[..0];
-    }
-    &s[at + 1..]
+// An entry of a list: which it is, counted from 0, and where its text behind the name stands.
+pub struct Entry {
+    pub place: usize,
+    pub from: usize,
+    pub to: usize,
 }
 
-// Which word of a list the name is, counted from 0, or how many words there are. The words of a list have bars between them.
-pub fn place(name: &[u8], list: &[u8]) -> usize {
+// Looks a name up in a list of entries `NAME TEXT` with bars between them. Without such a name the place is one that no entry has.
+pub fn looked_up(list: &[u8], name: &[u8]) -> Entry {
     let mut k: usize = 0;
     let mut at: usize = 0;
     while at < list.len() {
         let end = find(list, b'|', at);
-        if splice::same(name, part(list, at, end)) {
-            return k;
+        let space = find(list, b' ', at);
+        if splice::same(name, part(list, at, space)) {
+            return Entry {
+                place: k,
+                from: space,
+                to: end,
+            };
         }
-        k = sum(k, 1);
+        k += 1;
         if list.len() <= end {
-            return k;
+            return Entry {
+                place: k,
+                from: 0,
+                to: 0,
+            };
         }
         at = end + 1;
     }
-    k
-}
-
-// The word at a place of such a list, or no bytes.
-pub fn word(list: &[u8], place: usize) -> &[u8] {
-    let mut k: usize = 0;
-    let mut at: usize = 0;
-    while at < list.len() {
-        let end = find(list, b'|', at);
-        if k == place {
-            return part(list, at, end);
-        }
-        if list.len() <= end {
-            return part(list, 0, 0);
-        }
-        k = sum(k, 1);
-        at = end + 1;
+    Entry {
+        place: k,
+        from: 0,
+        to: 0,
     }
-    part(list, 0, 0)
-}
-
-// The sum, or the first where the sum is too large.
-pub fn sum(x: usize, y: usize) -> usize {
-    if usize::MAX - x < y {
-        return x;
-    }
-    x + y
-}
-
-// Lays down all of s.
-pub fn bytes(out: &mut [u8], at: usize, s: &[u8]) -> usize {
-    let w = splice::put(out, at, s);
-    match w {
-        Written::Bytes(n) => sum(at, n),
-        Written::Refused(_) => at,
-    }
-}
-
-// Lays down one byte.
-pub fn byte(out: &mut [u8], at: usize, x: u8) -> usize {
-    if at < out.len() {
-        out[at] = x;
-        return at + 1;
-    }
-    at
-}
-
-// Lays down a number in decimal.
-pub fn number(out: &mut [u8], at: usize, x: u64) -> usize {
-    let mut digits = [0u8; 20];
-    let n = io::decimal(x, &mut digits);
-    bytes(out, at, &digits[..n])
-}
-
-// The hexadecimal digit of a number below 16.
-fn digit(x: u8) -> u8 {
-    if x < 10 {
-        return 48 + x;
-    }
-    if x < 16 {
-        return 87 + x;
-    }
-    b'?'
-}
-
-// Lays down one byte as two hexadecimal digits.
-pub fn pair(out: &mut [u8], at: usize, x: u8) -> usize {
-    let next = byte(out, at, digit(x / 16));
-    byte(out, next, digit(x % 16))
 }

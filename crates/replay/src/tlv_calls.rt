@@ -1,106 +1,71 @@
-// The calls of `tlv`, by the kinds of their arguments.
+// The calls of `tlv` and of its type field. Of their arguments, a TLV of FIELD START LEN is three words.
 use crate::answers;
-use crate::answers::Answer;
 use crate::args;
 use crate::args::Args;
 use crate::names;
+use crate::notation;
 use lv::Lv;
 use tlv::Tlv;
+use tlv::TlvRead;
 use tlv::TlvTypeField;
 
-// Builds a TLV of a standard type.
-fn new(t: Tlv) -> Answer {
-    let field = t.tlv_type_field;
-    let l = t.lv;
-    match field {
-        TlvTypeField::Standard(x) => answers::tlv(Tlv::new(x, l.start, l.len)),
-        TlvTypeField::Custom(_) => Answer::NoCall,
-    }
-}
-
-// FIELD
-fn of_field(call: usize, field: TlvTypeField) -> Answer {
-    let TlvTypeField::Standard(x) = field else {
-        return Answer::NoCall;
-    };
+// Those of a type: x is its number, or the byte of a custom one.
+fn typed(call: usize, x: usize, l: Lv) {
+    let byte = (x % 256) as u8;
     match call {
-        names::NEW_EMPTY => answers::record(Tlv::new_empty(x)),
-        _ => Answer::NoCall,
-    }
-}
-
-// NUMBER START LEN, the number up to 255
-fn custom(call: usize, x: u64, l: Lv) -> Answer {
-    if 255 < x {
-        return Answer::NoCall;
-    }
-    match call {
-        names::NEW_WITH_CUSTOM_TYPE => {
-            answers::tlv(Tlv::new_with_custom_type(x as u8, l.start, l.len))
+        names::TYPE_TO_BYTE => answers::count(b"", args::field_of(x).to_byte() as u64),
+        names::TYPE_FROM_BYTE => answers::field(TlvTypeField::from_byte(byte)),
+        names::TLV_NEW => answers::tlv(Tlv::new(args::type_of(x), l.start, l.len)),
+        names::TLV_NEW_EMPTY => answers::tlv(TlvRead::Read(Tlv::new_empty(args::type_of(x)))),
+        names::TLV_NEW_WITH_CUSTOM_TYPE => {
+            answers::tlv(Tlv::new_with_custom_type(byte, l.start, l.len))
         }
-        _ => Answer::NoCall,
+        _ => answers::bad(),
     }
 }
 
-// FIELD START LEN
-fn of_record(call: usize, t: Tlv) -> Answer {
+// Those of a TLV alone.
+fn plain(call: usize, t: Tlv) {
     match call {
-        names::NEW => new(t),
-        names::LEN_WRITTEN => answers::length(t.len_written()),
-        names::LEN_FULL => answers::length(t.len_full()),
-        names::LEN_VALUE => answers::size(t.len_value()),
-        names::IS_EMPTY => answers::truth(t.is_empty()),
+        names::TLV_LEN_WRITTEN => answers::length(t.len_written()),
+        names::TLV_LEN_FULL => answers::length(t.len_full()),
+        names::TLV_LEN_VALUE => answers::count(b"", t.len_value() as u64),
+        names::TLV_IS_EMPTY => answers::truth(t.is_empty()),
         names::TLV_TYPE_FIELD => answers::field(t.tlv_type_field()),
         names::TLV_TYPE => answers::standard(t.tlv_type()),
-        names::IS_STANDARD_TLV => answers::truth(t.is_standard_tlv()),
-        _ => Answer::NoCall,
+        names::TLV_IS_STANDARD => answers::truth(t.is_standard_tlv()),
+        _ => answers::bad(),
     }
 }
 
-// FIELD START LEN BYTES
-fn in_buffer(call: usize, t: Tlv, a: &[u8]) -> Answer {
+fn tlv_of(x: usize, start: usize, len: usize) -> Tlv {
+    Tlv {
+        tlv_type_field: args::field_of(x),
+        lv: Lv { start, len },
+    }
+}
+
+// Those that take a source, and those of no bytes: x is the type's number.
+fn of_source(call: usize, x: usize, t: Tlv, a: &[u8]) {
     match call {
-        names::VALUE => Answer::TlvValue(t),
-        names::SPAN_TEST => answers::checked(t.span_test(a)),
-        _ => Answer::NoCall,
+        names::TLV_FROM_BYTES => answers::tlv(Tlv::from_bytes(a)),
+        names::TLV_VALUE => notation::say(t.value(a)),
+        names::TLV_SPAN_TEST => answers::checked(t.span_test(a)),
+        names::TYPE_TO_BYTE..=names::TLV_NEW_EMPTY => typed(call, x, t.lv),
+        _ => plain(call, t),
     }
 }
 
-// FIELD START LEN BYTES FIELD START LEN BYTES
-fn of_two(call: usize, t: Tlv, a: &[u8], u: Tlv, b: &[u8]) -> Answer {
+// a is the source, b the buffer, or the second source.
+pub fn made(args: Args, a: &[u8], b: &mut [u8]) {
+    let call = args.call;
+    let t = tlv_of(args.n0, args.n1, args.n2);
     match call {
-        names::SAME => answers::sameness(t.same(a, u, b)),
-        _ => Answer::NoCall,
-    }
-}
-
-// FIELD START LEN SRC BUF
-fn to_slice(call: usize, t: Tlv, a: &[u8], b: &mut [u8]) -> Answer {
-    match call {
-        names::WRITE_TO_SLICE => answers::wrote_second(t.write_to_slice(a, b)),
-        _ => Answer::NoCall,
-    }
-}
-
-// BYTES
-fn from_slice(call: usize, a: &[u8]) -> Answer {
-    match call {
-        names::FROM_BYTES => answers::tlv(Tlv::from_bytes(a)),
-        _ => Answer::NoCall,
-    }
-}
-
-pub fn made(call: usize, args: Args, a: &[u8], b: &mut [u8]) -> Answer {
-    let kinds = args.kinds;
-    let t = args.tlv(0);
-    match kinds {
-        args::F => of_field(call, args.field(0)),
-        args::NNN => custom(call, args.number(0), args.span(1)),
-        args::FNN => of_record(call, t),
-        args::FNNB => in_buffer(call, t, a),
-        args::FNNBFNNB => of_two(call, t, a, args.tlv(3), b),
-        args::FNNBB => to_slice(call, t, a, b),
-        args::B => from_slice(call, a),
-        _ => Answer::NoCall,
+        names::TLV_WRITE_TO_SLICE => answers::wrote(t.write_to_slice(a, b), b),
+        names::TLV_SAME => {
+            let u = tlv_of(args.n4, args.n5, args.n6);
+            answers::sameness(t.same(a, u, b))
+        }
+        _ => of_source(call, args.n0, t, a),
     }
 }

@@ -1,19 +1,21 @@
--- A run ends behind the place where it starts, so the place moves on in either branch, and what is left of the bytes falls. The output keeps its length.
+-- A run ends behind the place where it starts, so the place moves on in either branch, and what is left of the bytes falls.
 use borrow.Author.Needs.{needs}
 use Prim.Native.Nat.{_-_}
-use mathlib.Core.Path.{_≡_}
 use lib.ListN.{length}
 use Rattle.replay.proofs.notation.say.Statement.{statement}
 use Rattle.replay.proofs.notation.say.Tie as tie
 
 abbrev Inv-loop : tie.InvT-loop
-Inv-loop out₀ at s fill₀ before₀ i₀ out fill before i = length out ≡ length out₀
+Inv-loop s before₀ i₀ before i = Unit
 
 abbrev μ-loop : tie.MeasureT-loop
-μ-loop out₀ at s fill₀ before₀ i₀ out fill before i = length s - i
+μ-loop s before₀ i₀ before i = length s - i
 
-byte-requires : tie.Need-byte-requires Inv-loop μ-loop
-byte-requires c κs = search needs
+slice-aggregate-write-all : tie.Need-slice-aggregate-write-all Inv-loop μ-loop
+slice-aggregate-write-all c = search needs
+
+write-all-requires : tie.Need-write-all-requires Inv-loop μ-loop
+write-all-requires c κs = search needs
 
 loop-holds : tie.Need-loop-holds Inv-loop μ-loop
 loop-holds c = search needs
@@ -27,14 +29,11 @@ add-run-end c = search needs
 run-end-requires : tie.Need-run-end-requires Inv-loop μ-loop
 run-end-requires c κs = search needs
 
-sub-if1 : tie.Need-sub-if1 Inv-loop μ-loop
-sub-if1 c = search needs
+sub-count : tie.Need-sub-count Inv-loop μ-loop
+sub-count c = search needs
 
-dot-requires : tie.Need-dot-requires Inv-loop μ-loop
-dot-requires c κs = search needs
-
-pair-requires : tie.Need-pair-requires Inv-loop μ-loop
-pair-requires c κs = search needs
+say-run-requires : tie.Need-say-run-requires Inv-loop μ-loop
+say-run-requires c κs = search needs
 
 add-i : tie.Need-add-i Inv-loop μ-loop
 add-i c = search needs
@@ -45,23 +44,11 @@ loop-less c = search needs
 loop-again : tie.Need-loop-again Inv-loop μ-loop
 loop-again c = search needs
 
-dot-requires-2 : tie.Need-dot-requires-2 Inv-loop μ-loop
-dot-requires-2 c κs = search needs
-
-sub-run : tie.Need-sub-run Inv-loop μ-loop
-sub-run c = search needs
-
-run-requires : tie.Need-run-requires Inv-loop μ-loop
-run-requires c κs = search needs
-
 loop-less-2 : tie.Need-loop-less-2 Inv-loop μ-loop
 loop-less-2 c = search needs
 
 loop-again-2 : tie.Need-loop-again-2 Inv-loop μ-loop
 loop-again-2 c = search needs
-
-same-length : tie.Need-same-length Inv-loop μ-loop
-same-length c = search needs
 
 returns : tie.Need-returns Inv-loop μ-loop
 returns c = search needs
@@ -72,21 +59,17 @@ say-spec =
     (tie.spec
     Inv-loop
     μ-loop
-    byte-requires
+    slice-aggregate-write-all
+    write-all-requires
     loop-holds
     shared-slice-read-x
     add-run-end
     run-end-requires
-    sub-if1
-    dot-requires
-    pair-requires
+    sub-count
+    say-run-requires
     add-i
     loop-less
     loop-again
-    dot-requires-2
-    sub-run
-    run-requires
     loop-less-2
     loop-again-2
-    same-length
     returns)

@@ -1,15 +1,15 @@
--- A word ends at its start or behind, so the next one starts further on, and what is left of the list falls.
+-- An entry ends at its start or behind, so the next one starts further on, and what is left of the list falls. No more entries are passed than bytes.
 use borrow.Author.Needs.{needs}
-use Prim.Native.Nat.{_-_}
+use Prim.Native.Nat.{_≤_, _-_}
 use lib.ListN.{length}
-use Rattle.replay.proofs.text.word.Statement.{statement}
-use Rattle.replay.proofs.text.word.Tie as tie
+use Rattle.replay.proofs.text.looked_up.Statement.{statement}
+use Rattle.replay.proofs.text.looked_up.Tie as tie
 
 abbrev Inv-loop : tie.InvT-loop
-Inv-loop list place k₀ at₀ k at = Unit
+Inv-loop list name k₀ at₀ k at = k ≤ at
 
 abbrev μ-loop : tie.MeasureT-loop
-μ-loop list place k₀ at₀ k at = length list - at
+μ-loop list name k₀ at₀ k at = length list - at
 
 loop-holds : tie.Need-loop-holds Inv-loop μ-loop
 loop-holds c = search needs
@@ -17,20 +17,23 @@ loop-holds c = search needs
 find-requires : tie.Need-find-requires Inv-loop μ-loop
 find-requires c κs = search needs
 
+find-requires-2 : tie.Need-find-requires-2 Inv-loop μ-loop
+find-requires-2 c κs = search needs
+
 part-requires : tie.Need-part-requires Inv-loop μ-loop
 part-requires c κs = search needs
+
+same-requires : tie.Need-same-requires Inv-loop μ-loop
+same-requires c κs = search needs
 
 returns : tie.Need-returns Inv-loop μ-loop
 returns c = search needs
 
-part-requires-2 : tie.Need-part-requires-2 Inv-loop μ-loop
-part-requires-2 c κs = search needs
+add-k : tie.Need-add-k Inv-loop μ-loop
+add-k c = search needs
 
 returns-2 : tie.Need-returns-2 Inv-loop μ-loop
 returns-2 c = search needs
-
-sum-requires : tie.Need-sum-requires Inv-loop μ-loop
-sum-requires c κs = search needs
 
 add-at : tie.Need-add-at Inv-loop μ-loop
 add-at c = search needs
@@ -41,27 +44,24 @@ loop-less c = search needs
 loop-again : tie.Need-loop-again Inv-loop μ-loop
 loop-again c = search needs
 
-part-requires-3 : tie.Need-part-requires-3 Inv-loop μ-loop
-part-requires-3 c κs = search needs
-
 returns-3 : tie.Need-returns-3 Inv-loop μ-loop
 returns-3 c = search needs
 
-pub word-spec : {M : Type 1} → statement M
-word-spec =
+pub looked-up-spec : {M : Type 1} → statement M
+looked-up-spec =
     tie.close
     (tie.spec
     Inv-loop
     μ-loop
     loop-holds
     find-requires
+    find-requires-2
     part-requires
+    same-requires
     returns
-    part-requires-2
+    add-k
     returns-2
-    sum-requires
     add-at
     loop-less
     loop-again
-    part-requires-3
     returns-3)
