@@ -3,7 +3,7 @@ use refusal::Checked;
 use refusal::Refusal;
 use refusal::Written;
 ghost use mathlib.Core.Path.{_≡_};
-ghost use Prim.Native.Nat.{_+_, _≤_};
+ghost use Prim.Native.Nat.{_≤_};
 ghost use lib.ListN.{length};
 ghost use Rattle.refusal.specs.Answer.{also};
 ghost use Rattle.refusal.specs.Told.{toldWritten, toldChecked};

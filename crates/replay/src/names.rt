@@ -1,5 +1,6 @@
 // The calls by name. A call stands for its place in the list below, and a constant for each says which place is whose.
-// To add a call: its entry at the end of the list, its constant, and its arm in the *_calls module that `calls::made` picks for it.
+// To add a call: its entry in the list behind the last one of its family (lv, type and tlv, splice and number), its constant, those behind it
+// one further on, and its arm in the family's *_calls module. A new family is one more range in `calls::made`.
 use crate::args::Args;
 use crate::text;
 

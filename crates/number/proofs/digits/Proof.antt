@@ -1,3 +1,5 @@
+-- `number::digits` meets its contract. The loop's invariant: x, with the bytes that are left behind it, is the number of all of them, and x
+-- has at most i bytes, so that one more fits in 64 bits. Assumes nothing.
 use mathlib.Core.Path.{_≡_, refl, sym, _∙_}
 use Prim.Native.Nat.{_+_, _-_, _*_, _^_, _≤_, _<_}
 use native.Mathlib.Omega.{arith}

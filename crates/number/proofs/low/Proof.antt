@@ -1,3 +1,5 @@
+-- `number::low` meets its contract. The loop's invariant: the low i bytes of x, and behind them what is written, are the number's bytes.
+-- Assumes nothing.
 use mathlib.Core.Path.{_≡_, refl, sym, _∙_}
 use Prim.Native.Nat.{_+_, _-_, _≤_}
 use native.Mathlib.Omega.{arith}
