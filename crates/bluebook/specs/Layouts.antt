@@ -1,7 +1,10 @@
--- CCSDS 727.0-B-5: its layouts, as functions from what is meant to octets, and the numbers of its types.
+-- CCSDS 727.0-B-5: its layouts, as functions from what is meant to octets, the numbers of its types, and its table of actions.
 -- A layout is a list of numbers. Nothing here knows of buffers, places in them, or refusals.
-use Prim.Native.Nat.{ℕ, _≤_, _<_}
-use mathlib.Core.List.{List, [], _∷_}
+use mathlib.Core.Path.{_≡_}
+use Prim.Native.Nat.{ℕ, _+_, _*_, _≤_, _<_}
+use mathlib.Core.Bool.{Bool, true, false}
+use mathlib.Core.Option.{Option, some, none}
+use mathlib.Core.List.{List, [], _∷_, _++_}
 use lib.ListN.{length, getD}
 
 -- an octet is a number below 256
@@ -42,3 +45,80 @@ flowLabel = 0x05
 
 abbrev pub entityId : ℕ
 entityId = 0x06
+
+-- ---- the actions of a filestore request or response: a row each, in the table's order, with whether a second file name is present
+
+pub record Action : Type 0 where
+  pub code : ℕ
+  pub second : Bool
+
+abbrev row : ℕ → Bool → Action
+row c s = record { code = c; second = s }
+
+abbrev pub actions : List Action
+actions =
+    row 0 false  -- create file
+    ∷ row 1 false  -- delete file
+    ∷ row 2 true  -- rename file
+    ∷ row 3 true  -- append file
+    ∷ row 4 true  -- replace file
+    ∷ row 5 false  -- create directory
+    ∷ row 6 false  -- remove directory
+    ∷ row 7 false  -- deny file
+    ∷ row 8 false  -- deny directory
+    ∷ []
+
+-- whether the action's row has a second name
+unfoldable pub secondPresent : ℕ → Bool
+secondPresent a = getD actions a (row a false) .second
+
+abbrev pub there : Option (List ℕ) → Bool
+there (some v) = true
+there none = false
+
+-- an action of the table, and a second name exactly where its row has one
+pub record Named (action : ℕ) (second : Option (List ℕ)) : Type 0 where
+  pub known : action < length actions
+  pub due : there second ≡ secondPresent action
+
+abbrev pub lvIf : Option (List ℕ) → List ℕ
+lvIf (some v) = lv v
+lvIf none = []
+
+-- ---- filestore request: an octet with the action in its high four bits, the low four spare, all 0; then the names as LVs
+
+pub record Request : Type 0 where
+  pub action : ℕ
+  pub first : List ℕ
+  pub second : Option (List ℕ)
+
+abbrev pub requestValue : Request → List ℕ
+requestValue q = (q .action * 16) ∷ (lv (q .first) ++ lvIf (q .second))
+
+abbrev pub request : Request → List ℕ
+request q = tlv filestoreRequest (requestValue q)
+
+pub record Requested (q : Request) : Type 0 where
+  pub named : Named (q .action) (q .second)
+  pub value : Value (requestValue q)
+
+-- ---- filestore response: an octet with the action in its high four bits and the status in its low four; then the names as LVs, and the
+-- message as an LV, always there
+
+pub record Response : Type 0 where
+  pub action : ℕ
+  pub status : ℕ
+  pub first : List ℕ
+  pub second : Option (List ℕ)
+  pub message : List ℕ
+
+abbrev pub responseValue : Response → List ℕ
+responseValue r = (r .action * 16 + r .status) ∷ (lv (r .first) ++ lvIf (r .second) ++ lv (r .message))
+
+abbrev pub response : Response → List ℕ
+response r = tlv filestoreResponse (responseValue r)
+
+pub record Responded (r : Response) : Type 0 where
+  pub named : Named (r .action) (r .second)
+  pub status : r .status < 16
+  pub value : Value (responseValue r)

@@ -6,7 +6,7 @@ use mathlib.Core.Bool.{Bool, true, false}
 use mathlib.Core.List.{List, [], _∷_}
 use lib.Dec.{leb}
 use borrow.Author.Tests.{le-leb, lt-leb, leb-true}
-use Rattle.refusal.specs.Answer.{Answer, gives, refuses, pick, mapA, also, Test, placeTest}
+use Rattle.refusal.specs.Answer.{Answer, gives, refuses, pick, mapA, andThen, also, Test, placeTest}
 
 -- ---- what is given
 
@@ -19,6 +19,10 @@ gives-or-refuses x n vs e = let z : _≡_ {A = ℕ} 0 1 = cc in omega arith
 pub mapped-by : {A B : Type 0} (f : A → B) (a : Answer A) (y : B) → mapA f a ≡ gives y → (x : A) × (a ≡ gives x) × (f x ≡ y)
 mapped-by f (gives x) y e = (x, refl, gives-same (f x) y e)
 mapped-by f (refuses n vs) y e = absurd (gives-or-refuses y n vs (sym e))
+
+pub given-by : {A B : Type 0} (f : A → Answer B) (a : Answer A) (y : B) → andThen a f ≡ gives y → (x : A) × (a ≡ gives x) × (f x ≡ gives y)
+given-by f (gives x) y e = (x, refl, e)
+given-by f (refuses n vs) y e = absurd (gives-or-refuses y n vs (sym e))
 
 pub mapA-mapA : {A B C : Type 0} (g : B → C) (f : A → B) (a : Answer A) → mapA g (mapA f a) ≡ mapA (λ x. g (f x)) a
 mapA-mapA g f (gives x) = refl

@@ -2,7 +2,7 @@
 use mathlib.Core.Path.{_≡_}
 use Prim.Native.Nat.{ℕ}
 use mathlib.Core.List.{List, _++_}
-use Rattle.refusal.specs.Answer.{Answer, gives}
+use Rattle.refusal.specs.Answer.{Answer, gives, mapA, andThen, also, Test}
 
 -- what was read, and the bytes behind it
 pub record Took (M : Type 0) : Type 0 where
@@ -30,3 +30,17 @@ pub record Begins {M : Type 0} (ok : M → Type 0) (layout : M → List ℕ) (bs
   pub fine : ok m
   pub rest : List ℕ
   pub split : bs ≡ layout m ++ rest
+
+-- ---- readers made of readers
+
+-- a reader of the value that a frame holds: what it leaves of the value is part of what was read
+abbrev pub inside : {M : Type 0} → Reader (List ℕ) → Reader M → Reader (Took M)
+inside frame read bs = andThen (frame bs) (λ f. mapA (λ t. took t (f .rest)) (read (f .got)))
+
+-- a reader whose meaning must pass a test
+abbrev pub tested : {M : Type 0} → Reader M → (M → Test) → Reader M
+tested read test bs = andThen (read bs) (λ t. also (test (t .got)) (gives t))
+
+-- a reader that tells its meaning in other words
+abbrev pub reworded : {M N : Type 0} → (M → N) → Reader M → Reader N
+reworded to read bs = mapA (λ t. took (to (t .got)) (t .rest)) (read bs)
