@@ -69,7 +69,7 @@ actions =
     ∷ []
 
 -- whether the action's row has a second name
-unfoldable pub secondPresent : ℕ → Bool
+abbrev pub secondPresent : ℕ → Bool
 secondPresent a = getD actions a (row a false) .second
 
 abbrev pub there : Option (List ℕ) → Bool

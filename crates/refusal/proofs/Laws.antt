@@ -1,8 +1,8 @@
 -- The laws of answers that the proofs of all crates cite: what becomes of a refusal, and of what is given. Assumes nothing.
-use mathlib.Core.Path.{_≡_, refl, sym, _∙_}
+use mathlib.Core.Path.{_≡_, refl, sym, ap, _∙_}
 use Prim.Native.Nat.{ℕ, _≤_, _<_}
 use native.Mathlib.Omega.{arith}
-use mathlib.Core.Bool.{Bool, true, false}
+use mathlib.Core.Bool.{Bool, true, false, not}
 use mathlib.Core.List.{List, [], _∷_}
 use lib.Dec.{leb}
 use borrow.Author.Tests.{le-leb, lt-leb, leb-true}
@@ -16,6 +16,13 @@ gives-same x y e = cc
 pub gives-or-refuses : {A : Type 0} (x : A) (n : ℕ) (vs : List ℕ) → gives x ≡ refuses n vs → ⊥
 gives-or-refuses x n vs e = let z : _≡_ {A = ℕ} 0 1 = cc in omega arith
 
+refuses-same : {A B : Type 0} (m n : ℕ) (ws vs : List ℕ) → _≡_ {A = Answer A} (refuses m ws) (refuses n vs) → _≡_ {A = Answer B} (refuses m ws) (refuses n vs)
+refuses-same {A} {B} m n ws vs e = ap (again {A = A} {B = B}) e
+  where
+    again : {A B : Type 0} → Answer A → Answer B
+    again (gives x) = refuses 0 []
+    again (refuses n vs) = refuses n vs
+
 pub mapped-by : {A B : Type 0} (f : A → B) (a : Answer A) (y : B) → mapA f a ≡ gives y → (x : A) × (a ≡ gives x) × (f x ≡ y)
 mapped-by f (gives x) y e = (x, refl, gives-same (f x) y e)
 mapped-by f (refuses n vs) y e = absurd (gives-or-refuses y n vs (sym e))
@@ -23,6 +30,11 @@ mapped-by f (refuses n vs) y e = absurd (gives-or-refuses y n vs (sym e))
 pub given-by : {A B : Type 0} (f : A → Answer B) (a : Answer A) (y : B) → andThen a f ≡ gives y → (x : A) × (a ≡ gives x) × (f x ≡ gives y)
 given-by f (gives x) y e = (x, refl, e)
 given-by f (refuses n vs) y e = absurd (gives-or-refuses y n vs (sym e))
+
+-- a refusal is not changed by what is done to what is given
+pub mapA-refuses : {A B : Type 0} (f : A → B) (a : Answer A) (n : ℕ) (vs : List ℕ) → mapA f a ≡ refuses n vs → a ≡ refuses n vs
+mapA-refuses f (gives x) n vs e = absurd (gives-or-refuses (f x) n vs e)
+mapA-refuses f (refuses m ws) n vs e = refuses-same m n ws vs e
 
 pub mapA-mapA : {A B C : Type 0} (g : B → C) (f : A → B) (a : Answer A) → mapA g (mapA f a) ≡ mapA (λ x. g (f x)) a
 mapA-mapA g f (gives x) = refl
@@ -47,10 +59,23 @@ also-both (refuses n vs) b x e = absurd (gives-or-refuses x n vs e)
 pub also-of : {B : Type 0} {x a : Test} {y b : Answer B} {t : Answer B} → t ≡ also x y → x ≡ a → y ≡ b → t ≡ also a b
 also-of e p q = e ∙ (λ i. also (p i) (q i))
 
+pub also-mapped : {A B : Type 0} (a : Test) (f : A → B) (b : Answer A) → also a (mapA f b) ≡ mapA f (also a b)
+also-mapped (gives tt) f b = refl
+also-mapped (refuses n vs) f b = refl
+
 -- a test that gives tt or one refusal: what it says of the fact that it tests
 pub pick-passed : (b : Bool) (n : ℕ) (vs : List ℕ) → _≡_ {A = Test} (gives tt) (pick b (gives tt) (refuses n vs)) → b ≡ true
 pick-passed true n vs e = refl
 pick-passed false n vs e = absurd (gives-or-refuses tt n vs e)
+
+-- a test negated in code
+pub not-on : (b : Bool) → not b ≡ true → b ≡ false
+not-on true e = sym e
+not-on false e = refl
+
+pub not-off : (b : Bool) → not b ≡ false → b ≡ true
+not-off true e = refl
+not-off false e = sym e
 
 -- ---- 15
 

@@ -1,8 +1,11 @@
 -- The laws of readers tied to layouts. Assumes nothing.
 use mathlib.Core.Path.{_≡_, sym, ap, _∙_}
-use Prim.Native.Nat.{ℕ}
+use Prim.Native.Nat.{ℕ, _+_, _-_, _≤_}
+use native.Mathlib.Omega.{arith}
 use mathlib.Core.Logic.{_↔_}
 use mathlib.Core.List.{List, _++_}
+use lib.ListN.{length, take, drop, length-append}
+use lib.Seq.{slice, length-slice, drop-append-seam, drop-drop}
 use Rattle.refusal.specs.Answer.{Answer, gives, mapA, andThen, also, Test}
 use Rattle.refusal.specs.Reader.{Took, took, Reader, Exactly, Any, Begins, inside, tested, reworded}
 use Rattle.refusal.proofs.Laws.{gives-same, mapped-by, given-by, also-passed, also-both}
@@ -78,3 +81,14 @@ module _ {M : Type 0} {read : Reader M} {ok : M → Type 0} {layout : M → List
         let o = tie .only bs t q in
         (f (t .got) (o .0), o .1 ∙ ap (λ (l : List ℕ). l ++ t .rest) (e (t .got) (o .0)));
   }
+
+-- what a reader leaves of what stands between two places stands between two places
+pub rest-at : (bs p r : List ℕ) (at end : ℕ) → at ≤ end → end ≤ length bs → slice at end bs ≡ p ++ r
+    → (at + length p ≤ end) × (r ≡ slice (at + length p) end bs) × (length r ≡ end - (at + length p))
+rest-at bs p r at end h k s =
+    let n = length-slice at end bs k in
+    let m : length p + length r ≡ end - at = sym (length-append p r) ∙ ap length (sym s) ∙ n in (
+      omega arith,
+      sym (drop-append-seam p r) ∙ ap (drop (length p)) (sym s) ∙ drop-drop (length p) at (take end bs),
+      omega arith,
+    )

@@ -28,6 +28,12 @@ pub laid-all : (vs d : List ℕ) → length vs ≡ length d → laid 0 vs d ≡ 
 laid-all vs d h =
     laid-front vs d ∙ ap (λ (r : List ℕ). vs ++ r) (drop-of-length-le d {i = length vs} (omega arith)) ∙ append-nil vs
 
+-- no bytes change nothing
+pub laid-none : (at : ℕ) (d : List ℕ) → laid at [] d ≡ d
+laid-none at d =
+    let n : at + 0 ≡ at = omega arith in
+    laid-is at [] d ∙ (λ i. append-nil (take at d) i ++ drop (n i) d) ∙ take-append-drop at d
+
 pub length-laid : (at : ℕ) (vs d : List ℕ) → at + length vs ≤ length d → length (laid at vs d) ≡ length d
 length-laid at vs d h =
     ap length (laid-is at vs d)
