@@ -20,6 +20,10 @@ pub mapped-by : {A B : Type 0} (f : A → B) (a : Answer A) (y : B) → mapA f a
 mapped-by f (gives x) y e = (x, refl, gives-same (f x) y e)
 mapped-by f (refuses n vs) y e = absurd (gives-or-refuses y n vs (sym e))
 
+pub mapA-refused : {A B : Type 0} (f : A → B) (a : Answer A) (n : ℕ) (vs : List ℕ) → refuses n vs ≡ mapA f a → refuses n vs ≡ a
+mapA-refused f (gives x) n vs e = absurd (gives-or-refuses (f x) n vs (sym e))
+mapA-refused f (refuses m ws) n vs e = cc
+
 pub mapA-mapA : {A B C : Type 0} (g : B → C) (f : A → B) (a : Answer A) → mapA g (mapA f a) ≡ mapA (λ x. g (f x)) a
 mapA-mapA g f (gives x) = refl
 mapA-mapA g f (refuses n vs) = refl
@@ -38,6 +42,11 @@ also-passed a b e = rw (← e)
 pub also-both : {B : Type 0} (a : Test) (b : Answer B) (x : B) → gives x ≡ also a b → (gives tt ≡ a) × (gives x ≡ b)
 also-both (gives tt) b x e = (refl, e)
 also-both (refuses n vs) b x e = absurd (gives-or-refuses x n vs e)
+
+-- tests in sequence may be taken together
+pub also-assoc : {B : Type 0} (a b : Test) (c : Answer B) → also (also a b) c ≡ also a (also b c)
+also-assoc (gives tt) b c = refl
+also-assoc (refuses n vs) b c = refl
 
 -- two tests, from what each told
 pub also-of : {B : Type 0} {x a : Test} {y b : Answer B} {t : Answer B} → t ≡ also x y → x ≡ a → y ≡ b → t ≡ also a b

@@ -21,6 +21,11 @@ pub record Exactly {M : Type 0} (read : Reader M) (ok : M → Type 0) (layout : 
   pub accepts : (m : M) (rest : List ℕ) → ok m → read (layout m ++ rest) ≡ gives (took m rest)
   pub only : (bs : List ℕ) (t : Took M) → read bs ≡ gives t → (ok (t .got)) × (bs ≡ layout (t .got) ++ t .rest)
 
+-- the same, where what is taken has to be the layout only in bytes that are good: octets, say
+pub record ExactlyOf {M : Type 0} (good : List ℕ → Type 0) (read : Reader M) (ok : M → Type 0) (layout : M → List ℕ) : Type 0 where
+  pub accepts : (m : M) (rest : List ℕ) → ok m → read (layout m ++ rest) ≡ gives (took m rest)
+  pub only : (bs : List ℕ) (t : Took M) → good bs → read bs ≡ gives t → (ok (t .got)) × (bs ≡ layout (t .got) ++ t .rest)
+
 -- every meaning is ok
 abbrev pub Any : {M : Type 0} → M → Type 0
 Any m = Unit {0}
