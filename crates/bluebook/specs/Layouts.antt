@@ -1,7 +1,7 @@
 -- CCSDS 727.0-B-5: its layouts, as functions from what is meant to octets, the numbers of its types, and its table of actions.
 -- A layout is a list of numbers. Nothing here knows of buffers, places in them, or refusals.
 use mathlib.Core.Path.{_≡_}
-use Prim.Native.Nat.{ℕ, _+_, _*_, _≤_, _<_}
+use Prim.Native.Nat.{ℕ, zero, suc, _+_, _*_, _/_, _%_, _^_, _≤_, _<_}
 use mathlib.Core.Bool.{Bool, true, false}
 use mathlib.Core.Option.{Option, some, none}
 use mathlib.Core.List.{List, [], _∷_, _++_}
@@ -46,31 +46,51 @@ flowLabel = 0x05
 abbrev pub entityId : ℕ
 entityId = 0x06
 
--- ---- the actions of a filestore request or response: a row each, in the table's order, with whether a second file name is present
+-- ---- entity ID: type 06; its value is an unsigned integer of 1 to 8 octets
+
+-- an unsigned integer in k octets, the most significant first
+unfoldable pub beBytes : ℕ → ℕ → List ℕ
+beBytes zero x = []
+beBytes (suc k) x = beBytes k (x / 256) ++ (x % 256 ∷ [])
+
+pub record Entity : Type 0 where
+  pub width : ℕ
+  pub number : ℕ
+
+abbrev pub entity : Entity → List ℕ
+entity e = tlv entityId (beBytes (e .width) (e .number))
+
+-- what an entity ID can be
+pub record Identified (e : Entity) : Type 0 where
+  pub wide : 1 ≤ e .width
+  pub short : e .width ≤ 8
+  pub fits : e .number < 256 ^ e .width
+
+-- ---- the actions of a filestore request or response: a row each, in the table's order from code 0 on, with whether a second file name is
+-- present
 
 pub record Action : Type 0 where
-  pub code : ℕ
   pub second : Bool
 
-abbrev row : ℕ → Bool → Action
-row c s = record { code = c; second = s }
+abbrev row : Bool → Action
+row s = record { second = s }
 
 abbrev pub actions : List Action
 actions =
-    row 0 false  -- create file
-    ∷ row 1 false  -- delete file
-    ∷ row 2 true  -- rename file
-    ∷ row 3 true  -- append file
-    ∷ row 4 true  -- replace file
-    ∷ row 5 false  -- create directory
-    ∷ row 6 false  -- remove directory
-    ∷ row 7 false  -- deny file
-    ∷ row 8 false  -- deny directory
+    row false  -- 0 create file
+    ∷ row false  -- 1 delete file
+    ∷ row true  -- 2 rename file
+    ∷ row true  -- 3 append file
+    ∷ row true  -- 4 replace file
+    ∷ row false  -- 5 create directory
+    ∷ row false  -- 6 remove directory
+    ∷ row false  -- 7 deny file
+    ∷ row false  -- 8 deny directory
     ∷ []
 
 -- whether the action's row has a second name
 abbrev pub secondPresent : ℕ → Bool
-secondPresent a = getD actions a (row a false) .second
+secondPresent a = getD actions a (row false) .second
 
 abbrev pub there : Option (List ℕ) → Bool
 there (some v) = true

@@ -13,7 +13,7 @@ use borrow.Author.Tests.{lt-ltb, le-ltb, ltb-true, ltb-false, eq-eqb, ne-eqb}
 use Rattle.bluebook.specs.Layouts.{actions, secondPresent, lv, lvIf}
 use Rattle.refusal.specs.Answer.{Answer, gives, refuses, pick, mapA, andThen, also, Test}
 use Rattle.refusal.specs.Reader.{Took, took, Reader, Exactly, tested}
-use Rattle.refusal.proofs.Laws.{gives-or-refuses, mapped-by, mapA-refuses, mapA-mapA}
+use Rattle.refusal.proofs.Laws.{gives-or-refuses, mapped-by, mapA-refused, mapA-mapA}
 use Rattle.refusal.proofs.Readers.{rest-at}
 use Rattle.lv.specs.Rules.{span, takeLv, readLvAt}
 use Rattle.lv.specs.declared.Lv.{Lv}
@@ -124,7 +124,7 @@ module _ (bs : List ℕ) (at end : ℕ) (h : at ≤ end) (k : end ≤ length bs)
 
   pub readMessageAt-refused : (names : FilestoreTlvBase) (d : Bool) (n : ℕ) (vs : List ℕ) → refuses n vs ≡ readIfAt bs at end d → refuses n vs ≡ readMessageAt bs at end names d
   unfolding readIfAt readMessageAt
-  readMessageAt-refused names d n vs e = sym (ap (mapA _) (mapA-refuses (λ t. secondAt at (t .got)) (takeIf d (slice at end bs)) n vs (sym e)))
+  readMessageAt-refused names d n vs e = ap (mapA _) (mapA-refused (λ t. secondAt at (t .got)) (takeIf d (slice at end bs)) n vs e)
 
   pub readMessageAt-found : (names : FilestoreTlvBase) (d : Bool) (s : SecondName) → gives s ≡ readIfAt bs at end d
       → gives (foundOf (withMessage names s) (end - endIf at s)) ≡ readMessageAt bs at end names d
@@ -145,8 +145,8 @@ module _ (bs : List ℕ) (end : ℕ) (a : FilestoreActionCode) (low : ℕ) (f : 
   pub readBehind-refused : (n : ℕ) (vs : List ℕ) → refuses n vs ≡ readSecondAt bs (endOf f) end (dueOf a) → refuses n vs ≡ readBehind bs end a low f d
   unfolding readSecondAt readBehind
   readBehind-refused n vs e =
-      sym (ap (λ (x : Answer (Took (Option (List ℕ)))). andThen x (λ s. mapA (with-second (s .got)) (takeIf d (s .rest))))
-      (mapA-refuses (λ t. secondAt (endOf f) (t .got)) (takeSecond (dueOf a) (slice (endOf f) end bs)) n vs (sym e)))
+      ap (λ (x : Answer (Took (Option (List ℕ)))). andThen x (λ s. mapA (with-second (s .got)) (takeIf d (s .rest))))
+      (mapA-refused (λ t. secondAt (endOf f) (t .got)) (takeSecond (dueOf a) (slice (endOf f) end bs)) n vs e)
 
   pub readBehind-second : (s : SecondName) → gives s ≡ readSecondAt bs (endOf f) end (dueOf a)
       → readMessageAt bs (endIf (endOf f) s) end (baseOf a low f s Absent) d ≡ readBehind bs end a low f d
@@ -224,7 +224,7 @@ module _ (bs : List ℕ) (end : ℕ) (d : Bool) where
 module _ (d : Bool) (bs : List ℕ) where
   pub readBase-refused : (n : ℕ) (vs : List ℕ) → refuses n vs ≡ lenOf (kindOf d) bs → refuses n vs ≡ readBase d bs
   unfolding readBase lenOf
-  readBase-refused n vs e = rw (mapA-refuses (λ (v : Took (List ℕ)). 2 + length (v .got)) (takeOf (kindOf d) bs) n vs (sym e))
+  readBase-refused n vs e = rw (← mapA-refused (λ (v : Took (List ℕ)). 2 + length (v .got)) (takeOf (kindOf d) bs) n vs e)
 
   pub readBase-value : (end : ℕ) → gives end ≡ lenOf (kindOf d) bs → readValue bs end d ≡ readBase d bs
   unfolding readBase readValue

@@ -8,7 +8,7 @@ use mathlib.Core.Logic.{_↔_}
 use mathlib.Core.Bool.{Bool, true, false}
 use mathlib.Core.List.{List, [], _∷_, _++_}
 use lib.ListN.{length, take, drop, getD, length-append, length-drop, take-append-drop, List·getD-append, List·getD-eq-default}
-use lib.Seq.{length-take-le, take-append-seam, take-append-le, drop-append-seam, drop-append-le, drop-at, drop-drop, slice, length-slice}
+use lib.Seq.{length-take-le, take-append-seam, take-append-le, drop-append-seam, drop-append-le, drop-at, drop-drop, getD-drop, slice, length-slice}
 use lib.Dec.{leb, ltb}
 use borrow.Author.Tests.{leb-true, ltb-true, ltb-false}
 use Rattle.bluebook.specs.Layouts.{Octets, Value, lv}
@@ -144,6 +144,10 @@ octets-front v rest o k = go (ltb k (length v)) refl
     go : (t : Bool) → ltb k (length v) ≡ t → getD v k 0 < 256
     go true p = rw (List·getD-append v rest 0 k (ltb-true _ _ p)) at (o k)
     go false p = rw (List·getD-eq-default v 0 (ltb-false _ _ p)) (omega arith)
+
+pub octets-part : (bs : List ℕ) (m k : ℕ) → Octets bs → Octets (take k (drop m bs))
+octets-part bs m k o =
+    octets-front (take k (drop m bs)) (drop k (drop m bs)) (rw take-append-drop (λ i. rw (getD-drop m bs i 0) (o (m + i))))
 
 pub value-of : (v rest : List ℕ) → Octets (lv v ++ rest) → Value v
 value-of v rest o = record { octets = octets-front v rest (λ k. o (suc k)); short = omega (arith, o 0) }

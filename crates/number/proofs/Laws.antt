@@ -3,7 +3,7 @@ use mathlib.Core.Path.{_≡_, refl, sym, ap, _∙_}
 use Prim.Native.Nat.{ℕ, zero, suc, _+_, _-_, _*_, _/_, _%_, _^_, _≤_, _<_}
 use native.Mathlib.Omega.{arith}
 use lib.Pow.{pow-pos, pow-add}
-use native.Mathlib.Nat.{div-eq-of-lt, div-lt-iff-lt-mul, one-mul, pow-suc, pow-le-pow-right, add-suc}
+use native.Mathlib.Nat.{div-eq-of-lt, div-lt-iff-lt-mul, zero-add, add-zero, one-mul, pow-suc, pow-le-pow-right, add-suc}
 use native.Mathlib.Numerals.{add-one}
 use mathlib.Core.List.{List, [], _∷_, _++_, append-assoc, append-nil}
 use lib.ListN.{length, take, drop, getD, set, length-set, length-append, drop-of-length-le}
@@ -11,13 +11,14 @@ use lib.Seq.{drop-cons, drop-set-lt, drop-length, drop-append-le, take-all, getD
 use mathlib.Core.Bool.{Bool, true, false}
 use lib.Dec.{leb, ltb}
 use borrow.Author.Tests.{le-leb, lt-leb, lt-ltb, le-ltb, leb-true, leb-false, ltb-true}
+use Rattle.bluebook.specs.Layouts.{Octets, beBytes}
 use Rattle.refusal.specs.Answer.{Answer, gives, refuses, pick, Test}
 use Rattle.refusal.proofs.Laws.{gives-or-refuses}
 use Rattle.refusal.proofs.Once.{refusalOf-refused, untold, one-told}
 use Rattle.number.specs.Told.{toldNumber}
 use Rattle.number.specs.declared.Number.{Number}
 use Rattle.number.specs.declared.Number.the-variants.{Is, Refused}
-use Rattle.number.specs.Rules.{beFrom, ofBe, beBytes, readBe, numberTest}
+use Rattle.number.specs.Rules.{beFrom, ofBe, readBe, numberTest}
 
 -- one byte more, at the place i
 pub beFrom-next : (v : List ℕ) (i x : ℕ) → i < length v → beFrom (x * 256 + getD v i 0) (drop (i + 1) v) ≡ beFrom x (drop i v)
@@ -57,6 +58,23 @@ be-back zero x h = omega arith
 be-back (suc k) x h =
     let l : x / 256 < 256 ^ k = omega (arith, pow-suc 256 k) in
     beFrom-snoc (beBytes k (x / 256)) 0 (x % 256) ∙ rw (be-back k (x / 256) l) (omega arith)
+
+-- a number of k bytes, with the bytes behind it: their number has all these bytes, and fits them
+be-on : (k x : ℕ) (bs : List ℕ) → Octets bs → x < 256 ^ k → (beBytes (k + length bs) (beFrom x bs) ≡ beBytes k x ++ bs) × (beFrom x bs < 256 ^ (k + length bs))
+unfolding beFrom beBytes
+be-on k x [] o h = rw add-zero (sym (append-nil (beBytes k x)), h)
+be-on k x (b ∷ bs) o h =
+    let l : b < 256 = o 0 in
+    let q : (x * 256 + b) / 256 ≡ x = omega arith in
+    let r : (x * 256 + b) % 256 ≡ b = omega arith in
+    let n : suc k + length bs ≡ k + suc (length bs) = omega arith in
+    let ih = be-on (suc k) (x * 256 + b) bs (λ i. o (suc i)) (omega (arith, pow-suc 256 k)) in
+    rw (← n) (ih .0 ∙ rw (q, r) (append-assoc (beBytes k x) (b ∷ []) bs), ih .1)
+
+-- bytes are those of their number, which fits them
+pub be-forth : (bs : List ℕ) → Octets bs → (beBytes (length bs) (ofBe bs) ≡ bs) × (ofBe bs < 256 ^ length bs)
+unfolding beBytes
+be-forth bs o = rw zero-add at (be-on 0 0 bs o (omega arith))
 
 pub length-be : (k x : ℕ) → length (beBytes k x) ≡ k
 unfolding beBytes
@@ -101,6 +119,10 @@ pub numberTest-wide : (x w : ℕ) → 8 < w → numberTest x w ≡ refuses 5 (w 
 unfolding numberTest
 numberTest-wide x w h = simp (lt-leb _ _ h)
 
+pub numberTest-in : (x w : ℕ) → w ≤ 8 → x < 256 ^ w → numberTest x w ≡ gives tt
+unfolding numberTest
+numberTest-in x w h k = simp (le-leb _ _ h, lt-ltb _ _ k)
+
 -- a number fits exactly where nothing is left of it behind w bytes
 pub numberTest-large : (x w : ℕ) → w < 8 → (x / 2 ^ (8 * w) ≡ 0 → ⊥) → numberTest x w ≡ refuses 10 (w ∷ [])
 unfolding numberTest
@@ -114,8 +136,7 @@ numberTest-large x w h e = simp (le-leb w 8 (omega arith), le-ltb x (256 ^ w) (r
         go false p = absurd (e (div-eq-of-lt (leb-false _ _ p)))
 
 pub numberTest-fits : (x w : ℕ) → w < 8 → x / 2 ^ (8 * w) ≡ 0 → numberTest x w ≡ gives tt
-unfolding numberTest
-numberTest-fits x w h e = simp (le-leb w 8 (omega arith), lt-ltb x (256 ^ w) (rw (bits w) small))
+numberTest-fits x w h e = numberTest-in x w (omega arith) (rw (bits w) small)
   where
     small : x < 2 ^ (8 * w)
     small = rw one-mul at (div-lt-iff-lt-mul (pow-pos (8 * w)) .0 below)
@@ -125,8 +146,7 @@ numberTest-fits x w h e = simp (le-leb w 8 (omega arith), lt-ltb x (256 ^ w) (rw
 
 -- and all of 64 bits fit in 8 bytes
 pub numberTest-eight : (x w : ℕ) → w ≡ 8 → x < 2 ^ 64 → numberTest x w ≡ gives tt
-unfolding numberTest
-numberTest-eight x w e h = simp (e, lt-ltb x (256 ^ 8) (omega arith))
+numberTest-eight x w e h = numberTest-in x w (omega arith) (rw e (omega arith))
 
 pub record Fits (x w : ℕ) : Type 0 where
   pub width : w ≤ 8

@@ -1,6 +1,6 @@
--- Unsigned numbers, most significant byte first, and what each call answers, for all arguments.
-use Prim.Native.Nat.{ℕ, zero, suc, _+_, _*_, _/_, _%_, _^_}
-use mathlib.Core.List.{List, [], _∷_, _++_}
+-- Unsigned numbers, most significant byte first, and what each call answers, for all arguments. The bytes of a number are bluebook's `beBytes`.
+use Prim.Native.Nat.{ℕ, _+_, _*_, _^_}
+use mathlib.Core.List.{List, [], _∷_}
 use lib.ListN.{length}
 use lib.Dec.{leb, ltb}
 use Rattle.refusal.specs.Answer.{Answer, gives, refuses, pick, Test}
@@ -13,11 +13,6 @@ beFrom acc (b ∷ bs) = beFrom (acc * 256 + b) bs
 -- the number of the bytes
 abbrev pub ofBe : List ℕ → ℕ
 ofBe bs = beFrom 0 bs
-
--- the low k bytes of a number
-unfoldable pub beBytes : ℕ → ℕ → List ℕ
-beBytes zero x = []
-beBytes (suc k) x = beBytes k (x / 256) ++ (x % 256 ∷ [])
 
 -- READING: 5 with their number where the bytes are more than 8
 unfoldable pub readBe : List ℕ → Answer ℕ

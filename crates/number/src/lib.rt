@@ -5,9 +5,10 @@ use refusal::Written;
 ghost use mathlib.Core.Path.{_≡_};
 ghost use Prim.Native.Nat.{_≤_};
 ghost use lib.ListN.{length};
+ghost use Rattle.bluebook.specs.Layouts.{beBytes};
 ghost use Rattle.refusal.specs.Answer.{also};
 ghost use Rattle.refusal.specs.Told.{toldWritten, toldChecked};
-ghost use Rattle.number.specs.Rules.{ofBe, beBytes, readBe, numberTest};
+ghost use Rattle.number.specs.Rules.{ofBe, readBe, numberTest};
 ghost use Rattle.number.specs.Told.{toldNumber};
 ghost use Rattle.splice.specs.Writing.{roomAt, Wrote};
 

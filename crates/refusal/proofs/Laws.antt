@@ -16,13 +16,6 @@ gives-same x y e = cc
 pub gives-or-refuses : {A : Type 0} (x : A) (n : ℕ) (vs : List ℕ) → gives x ≡ refuses n vs → ⊥
 gives-or-refuses x n vs e = let z : _≡_ {A = ℕ} 0 1 = cc in omega arith
 
-refuses-same : {A B : Type 0} (m n : ℕ) (ws vs : List ℕ) → _≡_ {A = Answer A} (refuses m ws) (refuses n vs) → _≡_ {A = Answer B} (refuses m ws) (refuses n vs)
-refuses-same {A} {B} m n ws vs e = ap (again {A = A} {B = B}) e
-  where
-    again : {A B : Type 0} → Answer A → Answer B
-    again (gives x) = refuses 0 []
-    again (refuses n vs) = refuses n vs
-
 pub mapped-by : {A B : Type 0} (f : A → B) (a : Answer A) (y : B) → mapA f a ≡ gives y → (x : A) × (a ≡ gives x) × (f x ≡ y)
 mapped-by f (gives x) y e = (x, refl, gives-same (f x) y e)
 mapped-by f (refuses n vs) y e = absurd (gives-or-refuses y n vs (sym e))
@@ -32,9 +25,9 @@ given-by f (gives x) y e = (x, refl, e)
 given-by f (refuses n vs) y e = absurd (gives-or-refuses y n vs (sym e))
 
 -- a refusal is not changed by what is done to what is given
-pub mapA-refuses : {A B : Type 0} (f : A → B) (a : Answer A) (n : ℕ) (vs : List ℕ) → mapA f a ≡ refuses n vs → a ≡ refuses n vs
-mapA-refuses f (gives x) n vs e = absurd (gives-or-refuses (f x) n vs e)
-mapA-refuses f (refuses m ws) n vs e = refuses-same m n ws vs e
+pub mapA-refused : {A B : Type 0} (f : A → B) (a : Answer A) (n : ℕ) (vs : List ℕ) → refuses n vs ≡ mapA f a → refuses n vs ≡ a
+mapA-refused f (gives x) n vs e = absurd (gives-or-refuses (f x) n vs (sym e))
+mapA-refused f (refuses m ws) n vs e = cc
 
 pub mapA-mapA : {A B C : Type 0} (g : B → C) (f : A → B) (a : Answer A) → mapA g (mapA f a) ≡ mapA (λ x. g (f x)) a
 mapA-mapA g f (gives x) = refl
@@ -54,6 +47,11 @@ also-passed a b e = rw (← e)
 pub also-both : {B : Type 0} (a : Test) (b : Answer B) (x : B) → gives x ≡ also a b → (gives tt ≡ a) × (gives x ≡ b)
 also-both (gives tt) b x e = (refl, e)
 also-both (refuses n vs) b x e = absurd (gives-or-refuses x n vs e)
+
+-- tests in sequence may be taken together
+pub also-assoc : {B : Type 0} (a b : Test) (c : Answer B) → also (also a b) c ≡ also a (also b c)
+also-assoc (gives tt) b c = refl
+also-assoc (refuses n vs) b c = refl
 
 -- two tests, from what each told
 pub also-of : {B : Type 0} {x a : Test} {y b : Answer B} {t : Answer B} → t ≡ also x y → x ≡ a → y ≡ b → t ≡ also a b

@@ -5,7 +5,7 @@ use Prim.Native.Nat.{_+_, _-_, _≤_}
 use native.Mathlib.Omega.{arith}
 use mathlib.Core.List.{_++_}
 use lib.ListN.{length, drop, length-set}
-use Rattle.number.specs.Rules.{beBytes}
+use Rattle.bluebook.specs.Layouts.{beBytes}
 use Rattle.number.proofs.Laws.{beBytes-next, beBytes-all, beBytes-none}
 use Rattle.number.proofs.low.Statement.{statement}
 use Rattle.number.proofs.low.Tie as tie

@@ -3,8 +3,9 @@ use mathlib.Core.Path.{_≡_, sym, ap, _∙_}
 use Prim.Native.Nat.{_-_}
 use native.Mathlib.Omega.{arith}
 use lib.ListN.{take, drop}
+use Rattle.bluebook.specs.Layouts.{beBytes}
 use Rattle.refusal.specs.Answer.{gives}
-use Rattle.number.specs.Rules.{beBytes, numberTest}
+use Rattle.number.specs.Rules.{numberTest}
 use Rattle.refusal.specs.Told.{toldChecked}
 use Rattle.splice.proofs.Writing.{wrote-refused, wrote-passed}
 use Rattle.number.proofs.Laws.{numberTest-passed, last-bytes}

@@ -1,0 +1,265 @@
+// The entity ID TLV of CFDP: type 6, and as its value an unsigned big-endian number of 1, 2, 4 or 8 bytes.
+// A port of EntityIdTlv in src/cfdp/tlv/mod.rs and of UnsignedByteField in src/util.rs of spacepackets 0.19.0, changed: numbered answers, and
+// refusals before the first byte is read or written.
+use number::Number;
+use refusal::Checked;
+use refusal::Length;
+use refusal::Refusal;
+use refusal::Written;
+use tlv::StandardType;
+use tlv::Tlv;
+use tlv::TlvRead;
+use tlv::TlvType;
+use tlv::TlvTypeField;
+ghost use mathlib.Core.Path.{_≡_};
+ghost use lib.ListN.{length};
+ghost use Rattle.refusal.specs.Answer.{mapA};
+ghost use Rattle.refusal.specs.Told.{toldWritten, toldChecked, toldLength};
+ghost use Rattle.splice.specs.Writing.{Wrote};
+ghost use Rattle.number.specs.Rules.{readBe};
+ghost use Rattle.tlv.specs.Kinds.{typeOf, isStandard};
+ghost use Rattle.tlv.specs.Told.{toldTlv};
+ghost use Rattle.entity_id.specs.Rules.{entityOf, idOf, meaning, label, widthTest, entityTest, newEntity, lenEntity, headTest, typeTest, readEntity, labelTest, ofTlv, writeEntity, roomTest, MadeTlv, sameEntity};
+ghost use Rattle.entity_id.specs.Told.{toldEntity};
+
+// A number and how many bytes it is written in.
+pub struct UnsignedByteField {
+    pub width: usize,
+    pub value: u64,
+}
+
+pub struct EntityIdTlv {
+    pub entity_id: UnsignedByteField,
+}
+
+// What building and reading answer.
+pub enum EntityIdRead {
+    Read(EntityIdTlv),
+    Refused(Refusal),
+}
+
+// The type byte.
+const ENTITY_ID: u8 = 0x06;
+
+// 5 where a width is none of the four.
+fn width_test(width: usize) -> Checked
+    ensures { λ r. ⌜ toldChecked r ≡ widthTest width ⌝ }
+{
+    match width {
+        1 | 2 | 4 | 8 => Checked::Fine,
+        _ => Checked::Refused(Refusal::InvalidValueLength(width)),
+    }
+}
+
+// What building tests: 5, then 10.
+fn entity_test(id: UnsignedByteField) -> Checked
+    ensures { λ r. ⌜ toldChecked r ≡ entityTest (idOf id) ⌝ }
+{
+    let width = id.width;
+    width_test(width).then(number::test(id.value, width))
+}
+
+// 2 where n bytes have no room for the type and length bytes: the Rust's answer of readers too.
+fn head_test(n: usize) -> Checked
+    ensures { λ r. ⌜ toldChecked r ≡ headTest n ⌝ }
+{
+    if n < 2 {
+        return Checked::Refused(Refusal::ToSliceTooSmall {
+            found: n,
+            expected: 2,
+        });
+    }
+    Checked::Fine
+}
+
+// 3 where a type byte is another.
+fn type_test(found: u8) -> Checked
+    ensures { λ r. ⌜ toldChecked r ≡ typeTest found ⌝ }
+{
+    let expected = ENTITY_ID;
+    if found != expected {
+        return Checked::Refused(Refusal::InvalidTlvTypeFieldError { found, expected });
+    }
+    Checked::Fine
+}
+
+// 3 where a label is not the standard one: a custom label never is.
+fn label_test(field: TlvTypeField) -> Checked
+    ensures { λ r. ⌜ toldChecked r ≡ labelTest field ⌝ }
+{
+    match field {
+        TlvTypeField::Standard(t) => type_test(t.to_byte()),
+        TlvTypeField::Custom(found) => Checked::Refused(Refusal::InvalidTlvTypeFieldError {
+            found,
+            expected: ENTITY_ID,
+        }),
+    }
+}
+
+// Whether an entity ID can be written to n bytes: 5, 10, then 2.
+fn room_test(id: UnsignedByteField, n: usize) -> Checked
+    ensures { λ r. ⌜ toldChecked r ≡ roomTest (idOf id) n ⌝ }
+{
+    let test = entity_test(id).then(head_test(n));
+    if let Checked::Refused(r) = test {
+        return Checked::Refused(r);
+    }
+    let expected = id.width + 2;
+    if n < expected {
+        return Checked::Refused(Refusal::ToSliceTooSmall { found: n, expected });
+    }
+    Checked::Fine
+}
+
+// The entity ID whose bytes are v. 5 where they are more than 8.
+fn numbered(v: &[u8]) -> EntityIdRead
+    ensures { λ r. ⌜ toldEntity r ≡ mapA (entityOf (length (now (v .entry)))) (readBe (now (v .entry))) ⌝ }
+{
+    let width = v.len();
+    match number::read(v) {
+        Number::Is(value) => EntityIdRead::Read(EntityIdTlv {
+            entity_id: UnsignedByteField { width, value },
+        }),
+        Number::Refused(r) => EntityIdRead::Refused(r),
+    }
+}
+
+impl EntityIdTlv {
+    // 5, then 10.
+    pub fn new(entity_id: UnsignedByteField) -> EntityIdRead
+        ensures { λ r. ⌜ toldEntity r ≡ newEntity (idOf «entity_id») ⌝ }
+    {
+        match entity_test(entity_id) {
+            Checked::Fine => EntityIdRead::Read(EntityIdTlv { entity_id }),
+            Checked::Refused(r) => EntityIdRead::Refused(r),
+        }
+    }
+
+    pub fn entity_id(self) -> UnsignedByteField
+        ensures { λ r. ⌜ r ≡ self .«entity_id» ⌝ }
+    {
+        self.entity_id
+    }
+
+    // The length of the value: the width.
+    pub fn len_value(self) -> usize
+        ensures { λ r. ⌜ r ≡ self .«entity_id» .width ⌝ }
+    {
+        let id = self.entity_id;
+        id.width
+    }
+
+    // The length of the whole TLV, with the type and length bytes. 5, then 10.
+    pub fn len_full(self) -> Length
+        ensures { λ r. ⌜ toldLength r ≡ lenEntity (meaning self) ⌝ }
+    {
+        let id = self.entity_id;
+        let test = entity_test(id);
+        if let Checked::Refused(r) = test {
+            return Length::Refused(r);
+        }
+        Length::Len(id.width + 2)
+    }
+
+    // The entity ID at the front of buf. What stands behind it is ignored. 2, 3, 5, then 1.
+    pub fn from_bytes(buf: &[u8]) -> EntityIdRead
+        ensures { λ r. ⌜ toldEntity r ≡ readEntity (now (buf .entry)) ⌝ }
+    {
+        let n = buf.len();
+        let head = head_test(n);
+        if let Checked::Refused(r) = head {
+            return EntityIdRead::Refused(r);
+        }
+        let width = buf[1] as usize;
+        let test = type_test(buf[0]).then(width_test(width));
+        if let Checked::Refused(r) = test {
+            return EntityIdRead::Refused(r);
+        }
+        let expected = width + 2;
+        if n < expected {
+            return EntityIdRead::Refused(Refusal::FromSliceTooSmall { found: n, expected });
+        }
+        numbered(&buf[2..expected])
+    }
+
+    // Writes the number alone to buf, from byte 2 on, and gives the TLV whose value it is. 5, 10, then 2.
+    pub fn to_tlv(self, buf: &mut [u8]) -> TlvRead
+        ensures { λ r. ⌜ MadeTlv (meaning self) (toldTlv r) (now (buf .entry)) (now (buf .exit)) ⌝ }
+    {
+        let id = self.entity_id;
+        let test = room_test(id, buf.len());
+        if let Checked::Refused(r) = test {
+            return TlvRead::Refused(r);
+        }
+        number::write(id.value, id.width, buf, 2);
+        Tlv::new(TlvType::EntityId, 2, id.width)
+    }
+
+    // Writes the TLV to the front of buf. 5, 10, then 2.
+    pub fn write_to_slice(self, buf: &mut [u8]) -> Written
+        ensures { λ r. ⌜ Wrote 0 (writeEntity (meaning self) (length (now (buf .entry)))) (toldWritten r) (now (buf .entry)) (now (buf .exit)) ⌝ }
+    {
+        let id = self.entity_id;
+        let test = room_test(id, buf.len());
+        if let Checked::Refused(r) = test {
+            return Written::Refused(r);
+        }
+        let width = id.width;
+        buf[0] = ENTITY_ID;
+        buf[1] = width as u8;
+        number::write(id.value, width, buf, 2);
+        Written::Bytes(width + 2)
+    }
+
+    // The length of the written TLV. 5, then 10.
+    pub fn len_written(self) -> Length
+        ensures { λ r. ⌜ toldLength r ≡ lenEntity (meaning self) ⌝ }
+    {
+        self.len_full()
+    }
+
+    pub fn tlv_type_field(self) -> TlvTypeField
+        ensures { λ r. ⌜ r ≡ label ⌝ }
+    {
+        TlvTypeField::Standard(TlvType::EntityId)
+    }
+
+    pub fn tlv_type(self) -> StandardType
+        ensures { λ r. ⌜ r ≡ typeOf label ⌝ }
+    {
+        StandardType::There(TlvType::EntityId)
+    }
+
+    pub fn is_standard_tlv(self) -> bool
+        ensures { λ r. ⌜ r ≡ isStandard label ⌝ }
+    {
+        true
+    }
+
+    // The entity ID of a generic TLV whose value lies in buf. 3, 5, then 15.
+    pub fn from_tlv(tlv: Tlv, buf: &[u8]) -> EntityIdRead
+        ensures { λ r. ⌜ toldEntity r ≡ ofTlv tlv (now (buf .entry)) ⌝ }
+    {
+        let field = tlv.tlv_type_field;
+        let l = tlv.lv;
+        let test = label_test(field)
+            .then(width_test(l.len))
+            .then(l.span_test(buf));
+        if let Checked::Refused(r) = test {
+            return EntityIdRead::Refused(r);
+        }
+        numbered(l.value(buf))
+    }
+
+    // Whether two entity IDs have the same width and the same number.
+    pub fn same(self, other: EntityIdTlv) -> bool
+        ensures { λ r. ⌜ r ≡ sameEntity (meaning self) (meaning other) ⌝ }
+    {
+        let a = self.entity_id;
+        let b = other.entity_id;
+        if a.width != b.width {
+            return false;
+        }
+        a.value == b.value
+    }
+}
