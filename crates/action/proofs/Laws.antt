@@ -8,7 +8,7 @@ use lib.ListN.{length, getD}
 use lib.Dec.{ltb}
 use borrow.Author.Tests.{lt-ltb, le-ltb, ltb-true, ltb-false}
 use Rattle.bluebook.specs.Layouts.{actions, secondPresent}
-use Rattle.refusal.specs.Answer.{Answer, gives, refuses, pick}
+use Rattle.refusal.specs.Answer.{Answer, gives, refuses}
 use Rattle.refusal.proofs.Laws.{gives-same, gives-or-refuses}
 use Rattle.refusal.proofs.Once.{refusalOf-refused, untold, one-told}
 use Rattle.action.specs.Rules.{codeOf, codes, actionAt, actionOf, dueOf}

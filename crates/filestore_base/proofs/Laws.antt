@@ -3,13 +3,13 @@ use mathlib.Core.Path.{_≡_, refl, sym, ap, subst, _∙_}
 use Prim.Native.Nat.{ℕ, _+_, _*_, _≤_, _<_}
 use native.Mathlib.Omega.{arith}
 use mathlib.Core.Bool.{Bool, true, false, not, _&&_}
-use mathlib.Core.Option.{Option, some, none}
+use mathlib.Core.Option.{none}
 use mathlib.Core.List.{List, [], _∷_, _++_}
 use lib.ListN.{length, set, length-append, length-set}
 use lib.Dec.{leb, eqb}
 use borrow.Author.Tests.{le-leb, lt-leb, leb-true, eq-eqb, ne-eqb}
-use Rattle.bluebook.specs.Layouts.{lv, tlv, lvIf, there}
-use Rattle.refusal.specs.Answer.{Answer, gives, refuses, mapA, also, Test}
+use Rattle.bluebook.specs.Layouts.{lv, lvIf, there}
+use Rattle.refusal.specs.Answer.{Answer, gives, refuses, mapA, also}
 use Rattle.refusal.proofs.Laws.{gives-same, also-refused, also-passed, also-both, also-mapped, pick-passed}
 use Rattle.splice.specs.Laid.{laid, sameBytes}
 use Rattle.splice.specs.Writing.{Wrote}

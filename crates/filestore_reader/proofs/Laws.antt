@@ -2,18 +2,17 @@
 use mathlib.Core.Path.{_≡_, refl, sym, ap, _∙_}
 use Prim.Native.Nat.{ℕ, zero, suc, _+_, _-_, _/_, _%_, _≤_, _<_}
 use native.Mathlib.Omega.{arith}
-use native.Mathlib.Numerals.{add-one}
 use mathlib.Core.Bool.{Bool, true, false}
 use mathlib.Core.Option.{Option, some, none}
-use mathlib.Core.List.{List, [], _∷_, _++_}
+use mathlib.Core.List.{List, [], _∷_}
 use lib.ListN.{length, drop, getD}
 use lib.Seq.{slice, slice-cons, slice-empty, length-slice}
-use lib.Dec.{ltb, eqb}
+use lib.Dec.{ltb}
 use borrow.Author.Tests.{lt-ltb, le-ltb, ltb-true, ltb-false, eq-eqb, ne-eqb}
 use Rattle.bluebook.specs.Layouts.{actions, secondPresent, lv, lvIf}
 use Rattle.refusal.specs.Answer.{Answer, gives, refuses, pick, mapA, andThen, also, Test}
-use Rattle.refusal.specs.Reader.{Took, took, Reader, Exactly, tested}
-use Rattle.refusal.proofs.Laws.{gives-or-refuses, mapped-by, mapA-refused, mapA-mapA}
+use Rattle.refusal.specs.Reader.{Took, took, Reader, Exactly}
+use Rattle.refusal.proofs.Laws.{mapped-by, mapA-refused, mapA-mapA}
 use Rattle.refusal.proofs.Readers.{rest-at}
 use Rattle.lv.specs.Rules.{span, takeLv, readLvAt}
 use Rattle.lv.specs.declared.Lv.{Lv}
@@ -24,14 +23,14 @@ use Rattle.tlv.proofs.Theorems as tlvs
 use Rattle.action.specs.Rules.{codeOf, actionAt, actionOf, dueOf}
 use Rattle.action.specs.declared.FilestoreActionCode.{FilestoreActionCode}
 use Rattle.action.proofs.Laws.{code-back, actionOf-known, actionOf-none}
-use Rattle.filestore_base.specs.Meaning.{Filed, filed, kindOf, baseOf, secondAt, placed, endOf}
+use Rattle.filestore_base.specs.Meaning.{Filed, filed, kindOf, baseOf, secondAt, endOf}
 use Rattle.filestore_base.specs.declared.SecondName.{SecondName}
 use Rattle.filestore_base.specs.declared.SecondName.the-variants.{There, Absent}
 use Rattle.filestore_base.specs.declared.FilestoreTlvBase.{FilestoreTlvBase}
-use Rattle.filestore_reader.specs.Rules.{octet, takeOctet, takeIf, takeSecond, takeValue, takeFiled, foundOf, found, readBase, lowBitsTest, leftTest, statusListed, listedTest, strictTest, strictBase}
+use Rattle.filestore_reader.specs.Rules.{takeOctet, takeIf, takeSecond, takeValue, takeFiled, foundOf, found, readBase, lowBitsTest, leftTest, statusListed, listedTest, strictTest, strictBase}
 use Rattle.filestore_reader.specs.Inner.{readIfAt, readSecondAt, leftBefore, endIf, withMessage, readMessageAt, readBehind, readNames, readValue}
 use Rattle.filestore_reader.specs.declared.Found.{Found}
-use Rattle.filestore_reader.proofs.Exact.{FiledOk, exactly-if, exactly-second, exactly-filed}
+use Rattle.filestore_reader.proofs.Exact.{exactly-if, exactly-second, exactly-filed}
 
 -- ---- an LV that is there or not, at a place
 

@@ -1,0 +1,241 @@
+-- WHAT READING MEANS, for requests and responses at once: what is found selects the meaning whose layout stands there, may be written again, and
+-- what was written is found again. Assumes nothing.
+use mathlib.Core.Path.{_≡_, refl, sym, ap, subst, _∙_}
+use Prim.Native.Nat.{ℕ, suc, _+_, _*_, _≤_, _<_}
+use native.Mathlib.Omega.{arith}
+use mathlib.Core.Bool.{Bool, true, false}
+use mathlib.Core.Option.{Option, some, none}
+use mathlib.Core.List.{List, [], _∷_, _++_, append-assoc, append-nil}
+use lib.ListN.{length, drop, length-append}
+use lib.Dec.{eqb}
+use borrow.Author.Tests.{eqb-true}
+use Rattle.bluebook.specs.Layouts.{Octets, secondPresent, there, lv, lvIf, tlv}
+use Rattle.refusal.specs.Answer.{Answer, gives, mapA}
+use Rattle.refusal.specs.Reader.{Took, took, Exactly}
+use Rattle.refusal.proofs.Laws.{also-both, pick-passed, mapped-by}
+use Rattle.refusal.proofs.Once.{refusalOf-refused, untold, one-told}
+use Rattle.refusal.proofs.Readers.{exactly-tested}
+use Rattle.splice.specs.Writing.{Wrote}
+use Rattle.splice.proofs.Writing.{left-by}
+use Rattle.lv.specs.Rules.{span, partOf}
+use Rattle.lv.proofs.Laws.{spanTest-in}
+use Rattle.lv.proofs.Theorems.{selects, octets-front}
+use Rattle.action.specs.Rules.{codeOf, dueOf}
+use Rattle.action.specs.declared.FilestoreActionCode.{FilestoreActionCode}
+use Rattle.action.proofs.Laws.{code-back, code-known}
+use Rattle.filestore_base.specs.Meaning.{Filed, filed, isThere, partIf, kindOf, partsOf, valueOf, tlvOf, meaning, secondAt, placed}
+use Rattle.filestore_base.specs.Rules.{spanIf, lenOf, writeTest, writeBase, sameBase}
+use Rattle.filestore_base.specs.declared.FilestoreTlvBase.{FilestoreTlvBase}
+use Rattle.filestore_base.proofs.Laws.{Spans, there-if, length-value, writable, write-passed}
+use Rattle.filestore_base.proofs.Theorems.{Buildable, builds, same-means}
+use Rattle.filestore_reader.specs.Rules.{takeFiled, takeStrict, foundOf, found, readBase, lowBitsTest, leftTest, statusListed, listedTest, strictTest}
+use Rattle.filestore_reader.specs.Told.{toldFound}
+use Rattle.filestore_reader.specs.declared.Found.{Found}
+use Rattle.filestore_reader.specs.declared.FoundRead.{FoundRead}
+use Rattle.filestore_reader.specs.declared.FoundRead.the-variants.{Read, Refused}
+use Rattle.filestore_reader.proofs.Exact.{FiledOk, exactly-filed}
+
+-- a request or response, with what is left of its value and what stands behind it
+abbrev pub stands : Bool → Filed → List ℕ → List ℕ → List ℕ
+stands d m left rest = tlv (kindOf d) (valueOf m ++ left) ++ rest
+
+-- ---- SPANS: where the parts of a layout lie, and that they select them
+
+part-if : (p : List ℕ) (s : Option (List ℕ)) (rest : List ℕ) (at : ℕ) → length p ≡ at → partIf (secondAt at s) (p ++ (lvIf s ++ rest)) ≡ s
+part-if p none rest at e = refl
+part-if p (some v) rest at e =
+    ap some
+    (ap (partOf (span (at + 1) (length v))) (sym (append-assoc p (length v ∷ []) (v ++ rest)))
+    ∙ selects (p ++ (length v ∷ [])) v rest (at + 1) (length-append p (length v ∷ []) ∙ omega arith))
+
+span-if : (p : List ℕ) (s : Option (List ℕ)) (rest : List ℕ) (at : ℕ) → length p ≡ at → gives tt ≡ spanIf (secondAt at s) (p ++ (lvIf s ++ rest))
+span-if p none rest at e = refl
+span-if p (some v) rest at e =
+    sym (spanTest-in (span (at + 1) (length v)) (p ++ (lv v ++ rest)) (omega (arith, length-append p (lv v ++ rest), length-append v rest)))
+
+module _ (d : Bool) (m : Filed) (left rest : List ℕ) where
+  f : List ℕ
+  f = m .first
+
+  s : List ℕ
+  s = lvIf (m .second)
+
+  x : List ℕ
+  x = lvIf (m .message)
+
+  head : List ℕ
+  head = kindOf d ∷ length (valueOf m ++ left) ∷ (m .action * 16 + m .low) ∷ length f ∷ []
+
+  -- the same bytes, seen from the first name, the second, and the message
+  at-first : stands d m left rest ≡ head ++ (f ++ (s ++ (x ++ (left ++ rest))))
+  unfolding head f s x
+  at-first =
+      ap (λ (l : List ℕ). head ++ l)
+      (append-assoc ((f ++ s) ++ x) left rest ∙ append-assoc (f ++ s) x (left ++ rest) ∙ append-assoc f s (x ++ (left ++ rest)))
+
+  at-second : stands d m left rest ≡ (head ++ f) ++ (s ++ (x ++ (left ++ rest)))
+  at-second = at-first ∙ sym (append-assoc head f (s ++ (x ++ (left ++ rest))))
+
+  at-message : stands d m left rest ≡ (head ++ f ++ s) ++ (x ++ (left ++ rest))
+  at-message = at-second ∙ sym (append-assoc (head ++ f) s (x ++ (left ++ rest)))
+
+  length-second : length (head ++ f) ≡ 4 + length (m .first)
+  unfolding head f
+  length-second = omega (arith, length-append head f)
+
+  length-message : length (head ++ f ++ s) ≡ 4 + length (m .first) + length (lvIf (m .second))
+  unfolding s
+  length-message = omega (arith, length-append (head ++ f) s, length-second)
+
+  -- the spans select what is meant
+  pub means-back : FiledOk d m → meaning (placed m) (stands d m left rest) ≡ m
+  unfolding f s x head
+  means-back ok = λ i.
+      filed (code-back (m .action) (ok .named .known) i) (m .low)
+      ((ap (partOf (span 4 (length f))) at-first ∙ selects head f (s ++ (x ++ (left ++ rest))) 4 refl) i)
+      ((ap (partIf (secondAt (4 + length f) (m .second))) at-second ∙ part-if (head ++ f) (m .second) (x ++ (left ++ rest)) (4 + length f) length-second) i)
+      ((ap (partIf (secondAt (4 + length f + length s) (m .message))) at-message ∙ part-if (head ++ f ++ s) (m .message) (left ++ rest) (4 + length f + length s) length-message) i)
+
+  -- and lie in the buffer
+  pub spans-inside : Spans (placed m) (stands d m left rest)
+  unfolding f s x
+  spans-inside = record {
+    first = omega (arith, ap length at-second, length-append (head ++ f) (s ++ (x ++ (left ++ rest))), length-second);
+    second = subst (λ (l : List ℕ). gives tt ≡ spanIf (secondAt (4 + length f) (m .second)) l) (sym at-second) (span-if (head ++ f) (m .second) (x ++ (left ++ rest)) (4 + length f) length-second);
+    message = subst (λ (l : List ℕ). gives tt ≡ spanIf (secondAt (4 + length f + length s) (m .message)) l) (sym at-message) (span-if (head ++ f ++ s) (m .message) (left ++ rest) (4 + length f + length s) length-message);
+  }
+
+-- ---- STRICT READING takes exactly the layouts with nothing left, a request's low bits 0, and a response's status listed
+
+-- what strict reading leaves of the slack
+abbrev pub NoSlack : Bool → Filed → List ℕ → Type 0
+NoSlack false m left = (m .low ≡ 0) × (left ≡ [])
+NoSlack true m left = (left ≡ []) × (statusListed (m .action) (m .low) ≡ true)
+
+none-left : (l : List ℕ) → gives tt ≡ leftTest (length l) → l ≡ []
+unfolding leftTest
+none-left [] e = refl
+none-left (y ∷ l) e = absurd (omega (arith, eqb-true (length (y ∷ l)) 0 (pick-passed (eqb (length (y ∷ l)) 0) 12 (length (y ∷ l) ∷ []) e)))
+
+pub no-slack : (d : Bool) (m : Filed) (left : List ℕ) → gives tt ≡ strictTest d (m .action) (m .low) (length left) → NoSlack d m left
+unfolding lowBitsTest listedTest
+no-slack false m left e =
+    let p = also-both (lowBitsTest (m .low)) (leftTest (length left)) tt e in
+    (eqb-true (m .low) 0 (pick-passed (eqb (m .low) 0) 11 (m .low ∷ []) (p .0)), none-left left (p .1))
+no-slack true m left e =
+    let p = also-both (leftTest (length left)) (listedTest (m .action) (m .low)) tt e in
+    (none-left left (p .0), pick-passed (statusListed (m .action) (m .low)) 13 (m .low ∷ []) (p .1))
+
+pub slack-none : (d : Bool) (m : Filed) (left : List ℕ) → NoSlack d m left → gives tt ≡ strictTest d (m .action) (m .low) (length left)
+unfolding lowBitsTest leftTest listedTest
+slack-none false m left h = sym (rw (h .0, h .1))
+slack-none true m left h = sym (rw (h .0, h .1))
+
+pub exactly-strict : (d : Bool) → Exactly (takeStrict d) (λ t. FiledOk d (t .got) × (gives tt ≡ strictTest d (t .got .action) (t .got .low) (length (t .rest)))) (λ t. tlv (kindOf d) (valueOf (t .got) ++ t .rest))
+exactly-strict d = exactly-tested (exactly-filed d) (λ t. strictTest d (t .got .action) (t .got .low) (length (t .rest)))
+
+-- ---- what was found, of bytes: it can be built, and written from the buffer that it was read from
+
+pub record Selected (d : Bool) (bs : List ℕ) (f : Found) : Type 0 where
+  pub meant : Filed
+  pub fine : FiledOk d meant
+  pub left : List ℕ
+  pub rest : List ℕ
+  pub split : bs ≡ stands d meant left rest
+  pub is : f ≡ foundOf (placed meant) (length left)
+  pub selects : meaning (f .base) bs ≡ meant
+  pub inside : Spans (f .base) bs
+
+pub selected : (d : Bool) (bs : List ℕ) (f : Found) → readBase d bs ≡ gives f → Selected d bs f
+unfolding readBase
+selected d bs f e =
+    let t = mapped-by (λ (t : Took (Took Filed)). found (t .got)) (takeFiled d bs) f e in
+    let m = t .0 .got .got in
+    let o = exactly-filed d .only bs (t .0) (t .1) in
+    let b : f .base ≡ placed m = ap (λ (g : Found). g .base) (sym (t .2)) in
+    record {
+      meant = m;
+      fine = o .0;
+      left = t .0 .got .rest;
+      rest = t .0 .rest;
+      split = o .1;
+      is = sym (t .2);
+      selects = (λ i. meaning (b i) (o .1 i)) ∙ means-back d m (t .0 .got .rest) (t .0 .rest) (o .0);
+      inside = subst (λ (c : FilestoreTlvBase). Spans c bs) (sym b) (subst (λ (l : List ℕ). Spans (placed m) l) (sym (o .1)) (spans-inside d m (t .0 .got .rest) (t .0 .rest)));
+    }
+
+-- a value of octets has at most 255 of them
+pub read-writable : (d : Bool) (bs : List ℕ) (f : Found) → Octets bs → readBase d bs ≡ gives f → gives tt ≡ writeTest (f .base) bs
+read-writable d bs f o e =
+    let w = selected d bs f e in
+    let m = w .meant in
+    let n : length (valueOf m ++ w .left) < 256 = subst Octets (w .split) o 1 in
+    let v : lenOf (f .base) ≡ length (valueOf m) = sym (length-value (f .base) bs (w .inside)) ∙ ap (λ (x : Filed). length (valueOf x)) (w .selects) in
+    let low : f .base .«low_bits» ≡ m .low = ap (λ (x : Filed). x .low) (w .selects) in
+    let k : codeOf (f .base .«action_code») ≡ m .action = ap (λ (x : Filed). x .action) (w .selects) in
+    write-passed (f .base) bs (builds (f .base) .1 (record {
+      due = sym (there-if (f .base .«second_name») bs) ∙ ap (λ (x : Filed). there (x .second)) (w .selects) ∙ w .fine .named .due ∙ sym (due-of (f .base .«action_code») (m .action) k);
+      low = omega (arith, w .fine .low);
+      size = omega (arith, length-append (valueOf m) (w .left));
+    })) (w .inside)
+  where
+    due-of : (a : FilestoreActionCode) (n : ℕ) → codeOf a ≡ n → dueOf a ≡ secondPresent n
+    due-of a n e = ap secondPresent e
+
+-- and it is what the standard allows: octets, at most 255 in the value
+pub read-octets : (d : Bool) (bs : List ℕ) (m : Filed) (left rest : List ℕ) → Octets bs → bs ≡ stands d m left rest → Octets (partsOf m) × (length (valueOf m) ≤ 255)
+read-octets d bs m left rest o e =
+    let p : Octets (stands d m left rest) = subst Octets e o in
+    let q : Octets ((partsOf m ++ left) ++ rest) = λ k. p (suc (suc (suc k))) in
+    (octets-front (partsOf m) left (octets-front (partsOf m ++ left) rest q), omega (arith, p 1, length-append (valueOf m) left))
+
+-- ---- what was written is found again, with the same meaning and nothing left
+
+pub record Back (b : FilestoreTlvBase) (src old new : List ℕ) : Type 0 where
+  pub bytes : new ≡ tlvOf (meaning b src) ++ drop (lenOf b + 2) old
+  pub read : readBase (isThere (b .message)) new ≡ gives (foundOf (placed (meaning b src)) 0)
+  pub means : meaning (placed (meaning b src)) new ≡ meaning b src
+  pub same : sameBase b src (placed (meaning b src)) new ≡ gives true
+
+-- what may be written has a layout that the reader takes
+pub filed-ok : (b : FilestoreTlvBase) (src : List ℕ) → Buildable b → FiledOk (isThere (b .message)) (meaning b src)
+filed-ok b src h = record {
+  named = record { known = code-known (b .«action_code»); due = there-if (b .«second_name») src ∙ h .due };
+  low = omega (arith, h .low);
+  message = there-if (b .message) src;
+}
+
+pub read-back : (b : FilestoreTlvBase) (src old new : List ℕ) (k : ℕ) → Wrote 0 (writeBase b src (length old)) (gives k) old new → Back b src old new
+unfolding writeBase readBase
+read-back b src old new k w =
+    let m = meaning b src in
+    let d = isThere (b .message) in
+    let l = left-by (writeTest b src) (tlvOf m) old new k w in
+    let g = writable b src (l .passed) in
+    let ok = filed-ok b src (builds b .0 (g .built)) in
+    let n : length (tlvOf m) ≡ lenOf b + 2 = omega (arith, length-value b src (g .spans)) in
+    let bytes : new ≡ tlvOf m ++ drop (lenOf b + 2) old = l .bytes ∙ ap (λ (j : ℕ). tlvOf m ++ drop j old) n in
+    let s : new ≡ stands d m [] (drop (lenOf b + 2) old) =
+    bytes ∙ (λ i. tlv (kindOf (there-if (b .message) src i)) (sym (append-nil (valueOf m)) i) ++ drop (lenOf b + 2) old) in
+    let e : meaning (placed m) new ≡ m = ap (meaning (placed m)) s ∙ means-back d m [] (drop (lenOf b + 2) old) ok in
+    record {
+      bytes = bytes;
+      read = ap (λ (l : List ℕ). mapA (λ t. found (t .got)) (takeFiled d l)) s ∙ ap (mapA (λ t. found (t .got))) (exactly-filed d .accepts (took m []) (drop (lenOf b + 2) old) ok);
+      means = e;
+      same = same-means b src (placed m) new .1 (g .spans, subst (λ (l : List ℕ). Spans (placed m) l) (sym s) (spans-inside d m [] (drop (lenOf b + 2) old)), sym e);
+    }
+
+-- what was written could be built
+pub back-ok : (b : FilestoreTlvBase) (src old new : List ℕ) (k : ℕ) → Wrote 0 (writeBase b src (length old)) (gives k) old new → FiledOk (isThere (b .message)) (meaning b src)
+unfolding writeBase
+back-ok b src old new k w =
+    filed-ok b src (builds b .0 (writable b src (left-by (writeTest b src) (tlvOf (meaning b src)) old new k w .passed) .built))
+
+-- ---- ONE ANSWER: of `from_bytes` and `from_bytes_strict`
+
+pub one-found : (x : Answer Found) (a b : FoundRead) → toldFound a ≡ x → toldFound b ≡ x → a ≡ b
+one-found = one-told toldFound Read Refused back
+  where
+    back : (a : FoundRead) → untold Read Refused (toldFound a) ≡ a
+    back (Read f) = refl
+    back (Refused r) = ap Refused (refusalOf-refused r)
