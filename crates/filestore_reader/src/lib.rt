@@ -57,15 +57,14 @@ fn lv_if(buf: &[u8], at: usize, end: usize, wanted: bool) -> SecondRead
 
 // What is left, if anything is.
 fn left_before(at: usize, end: usize) -> SecondName
+    requires { ⌜ at ≤ end ⌝ }
     ensures { λ r. ⌜ r ≡ leftBefore at end ⌝ }
 {
-    if at < end {
-        return SecondName::There(Lv {
-            start: at,
-            len: end - at,
-        });
+    let len = end - at;
+    if len < 1 {
+        return SecondName::Absent;
     }
-    SecondName::Absent
+    SecondName::There(Lv { start: at, len })
 }
 
 // The second name, where the action has one.
