@@ -7,11 +7,11 @@ use mathlib.Core.Bool.{Bool, true, false}
 use lib.ListN.{length, getD}
 use lib.Dec.{ltb}
 use borrow.Author.Tests.{lt-ltb, le-ltb, ltb-true, ltb-false}
-use Rattle.bluebook.specs.Layouts.{actions, secondPresent}
+use Rattle.bluebook.specs.Layouts.{actions}
 use Rattle.refusal.specs.Answer.{Answer, gives, refuses}
 use Rattle.refusal.proofs.Laws.{gives-same, gives-or-refuses}
 use Rattle.refusal.proofs.Once.{refusalOf-refused, untold, one-told}
-use Rattle.action.specs.Rules.{codeOf, codes, actionAt, actionOf, dueOf}
+use Rattle.action.specs.Rules.{codeOf, codes, actionAt, actionOf}
 use Rattle.action.specs.Told.{toldAction}
 use Rattle.action.specs.declared.FilestoreActionCode.{FilestoreActionCode}
 use Rattle.action.specs.declared.FilestoreActionCode.the-variants.{CreateFile, DeleteFile, RenameFile, AppendFile, ReplaceFile, CreateDirectory, RemoveDirectory, DenyFile, DenyDirectory}
@@ -76,12 +76,6 @@ action-of n a e = go (ltb n (length actions)) refl
 
 pub code-known : (a : FilestoreActionCode) → codeOf a < length actions
 code-known a = action-of (codeOf a) a (action-back a) .0
-
-pub action-same : (a : FilestoreActionCode) → actionAt (codeOf a) ≡ a
-action-same a = action-of (codeOf a) a (action-back a) .2
-
-pub dueOf-is : (a : FilestoreActionCode) → dueOf a ≡ secondPresent (codeOf a)
-dueOf-is a = refl
 
 -- two actions are the same where their codes are
 pub one-code : (a b : FilestoreActionCode) → codeOf a ≡ codeOf b → a ≡ b

@@ -6,11 +6,11 @@ use mathlib.Core.Bool.{Bool, true, false, not, _&&_}
 use mathlib.Core.Option.{none}
 use mathlib.Core.List.{List, [], _∷_, _++_}
 use lib.ListN.{length, set, length-append, length-set}
-use lib.Dec.{leb, eqb}
-use borrow.Author.Tests.{le-leb, lt-leb, leb-true, eq-eqb, ne-eqb}
+use lib.Dec.{eqb}
+use borrow.Author.Tests.{eq-eqb, ne-eqb}
 use Rattle.bluebook.specs.Layouts.{lv, lvIf, there}
 use Rattle.refusal.specs.Answer.{Answer, gives, refuses, mapA, also}
-use Rattle.refusal.proofs.Laws.{gives-same, also-refused, also-passed, also-both, also-mapped, pick-passed}
+use Rattle.refusal.proofs.Laws.{gives-same, also-refused, also-passed, also-both, also-mapped, limit-in, limit-passed}
 use Rattle.splice.specs.Laid.{laid, sameBytes}
 use Rattle.splice.specs.Writing.{Wrote}
 use Rattle.splice.proofs.Laws.{laid-cons, laid-behind, laid-none}
@@ -27,30 +27,6 @@ use Rattle.filestore_base.specs.declared.SecondName.the-variants.{There,
 use Rattle.filestore_base.specs.declared.FilestoreTlvBase.{FilestoreTlvBase}
 
 -- ---- single tests
-
-pub statusTest-in : (s : ℕ) → s ≤ 15 → statusTest s ≡ gives tt
-unfolding statusTest
-statusTest-in s h = simp (le-leb _ _ h)
-
-pub statusTest-over : (s : ℕ) → 15 < s → statusTest s ≡ refuses 9 (s ∷ [])
-unfolding statusTest
-statusTest-over s h = simp (lt-leb _ _ h)
-
-pub statusTest-passed : (s : ℕ) → gives tt ≡ statusTest s → s ≤ 15
-unfolding statusTest
-statusTest-passed s e = leb-true _ _ (pick-passed (leb s 15) 9 (s ∷ []) e)
-
-pub lengthTest-in : (n : ℕ) → n ≤ 255 → lengthTest n ≡ gives tt
-unfolding lengthTest
-lengthTest-in n h = simp (le-leb _ _ h)
-
-pub lengthTest-over : (n : ℕ) → 255 < n → lengthTest n ≡ refuses 5 (n ∷ [])
-unfolding lengthTest
-lengthTest-over n h = simp (lt-leb _ _ h)
-
-pub lengthTest-passed : (n : ℕ) → gives tt ≡ lengthTest n → n ≤ 255
-unfolding lengthTest
-lengthTest-passed n e = leb-true _ _ (pick-passed (leb n 255) 5 (n ∷ []) e)
 
 pub sizeIf-passed : (s : SecondName) → gives tt ≡ sizeIf s → lenIf s ≤ 256
 sizeIf-passed (There l) e = omega (arith, sizeTest-passed l e)
@@ -81,11 +57,11 @@ module _ (b : FilestoreTlvBase) where
       let q = also-both (also (also (sizeTest (b .«first_name»)) (sizeIf (b .«second_name»))) (sizeIf (b .message))) (dueTest (dueOf (b .«action_code»)) (b .«second_name»)) tt (p .0) in
       let r = also-both (also (sizeTest (b .«first_name»)) (sizeIf (b .«second_name»))) (sizeIf (b .message)) tt (q .0) in
       let s = also-both (sizeTest (b .«first_name»)) (sizeIf (b .«second_name»)) tt (r .0) in
-      record { first = sizeTest-passed (b .«first_name») (s .0); second = s .1; message = r .1; due = q .1; low = statusTest-passed (b .«low_bits») (p .1) }
+      record { first = sizeTest-passed (b .«first_name») (s .0); second = s .1; message = r .1; due = q .1; low = limit-passed 9 15 (b .«low_bits») (p .1) }
 
   pub parts-passed : Parts b → gives tt ≡ partsTest b
   parts-passed p =
-      sym (rw (sizeTest-in (b .«first_name») (p .first), ← p .second, ← p .message, ← p .due, statusTest-in (b .«low_bits») (p .low)))
+      sym (rw (sizeTest-in (b .«first_name») (p .first), ← p .second, ← p .message, ← p .due, limit-in 9 15 (b .«low_bits») (p .low)))
       ∙ partsTest-is
 
   pub buildTest-refused : (n : ℕ) (vs : List ℕ) → refuses n vs ≡ partsTest b → refuses n vs ≡ buildTest b
@@ -100,10 +76,10 @@ module _ (b : FilestoreTlvBase) where
   unfolding buildTest
   built e =
       let p = also-both (partsTest b) (lengthTest (lenOf b)) tt e in
-      (p .0, lengthTest-passed (lenOf b) (p .1))
+      (p .0, limit-passed 5 255 (lenOf b) (p .1))
 
   pub build-passed : Parts b → lenOf b ≤ 255 → gives tt ≡ buildTest b
-  build-passed p h = sym (buildTest-length (parts-passed p) ∙ lengthTest-in (lenOf b) h)
+  build-passed p h = sym (buildTest-length (parts-passed p) ∙ limit-in 5 255 (lenOf b) h)
 
   pub lenValue-refused : (n : ℕ) (vs : List ℕ) → refuses n vs ≡ buildTest b → refuses n vs ≡ lenValue b
   unfolding lenValue

@@ -5,8 +5,8 @@ use mathlib.Core.Bool.{Bool, true, false, _&&_}
 use mathlib.Core.Option.{Option, some, none}
 use mathlib.Core.List.{List, [], _∷_}
 use lib.ListN.{length}
-use lib.Dec.{leb, eqb}
-use Rattle.refusal.specs.Answer.{Answer, gives, refuses, pick, also, Test}
+use lib.Dec.{eqb}
+use Rattle.refusal.specs.Answer.{Answer, gives, refuses, also, Test, limitTest}
 use Rattle.splice.specs.Laid.{sameBytes}
 use Rattle.splice.specs.Writing.{roomFor}
 use Rattle.lv.specs.Rules.{spanTest, sizeTest}
@@ -44,8 +44,8 @@ dueTest false Absent = gives tt
 -- ---- BUILDING, in order: 4 (first name, second, message), 6 or 8, 9, then 5 with the whole length of the value
 
 -- 9 for a status over 15
-unfoldable pub statusTest : ℕ → Test
-statusTest s = pick (leb s 15) (gives tt) (refuses 9 (s ∷ []))
+abbrev pub statusTest : ℕ → Test
+statusTest s = limitTest 9 15 s
 
 unfoldable pub partsTest : FilestoreTlvBase → Test
 partsTest b =
@@ -60,8 +60,8 @@ abbrev pub lenOf : FilestoreTlvBase → ℕ
 lenOf b = b .«first_name» .len + 2 + lenIf (b .«second_name») + lenIf (b .message)
 
 -- 5 for a value over 255 bytes
-unfoldable pub lengthTest : ℕ → Test
-lengthTest n = pick (leb n 255) (gives tt) (refuses 5 (n ∷ []))
+abbrev pub lengthTest : ℕ → Test
+lengthTest n = limitTest 5 255 n
 
 unfoldable pub buildTest : FilestoreTlvBase → Test
 buildTest b = also (partsTest b) (lengthTest (lenOf b))

@@ -8,7 +8,7 @@ use mathlib.Core.List.{List, [], _∷_}
 use lib.ListN.{length, drop, getD}
 use lib.Seq.{slice, slice-cons, slice-empty, length-slice}
 use lib.Dec.{ltb}
-use borrow.Author.Tests.{lt-ltb, le-ltb, ltb-true, ltb-false, eq-eqb, ne-eqb}
+use borrow.Author.Tests.{lt-ltb, le-ltb, ltb-true, ltb-false, ne-eqb}
 use Rattle.bluebook.specs.Layouts.{actions, secondPresent, lv, lvIf}
 use Rattle.refusal.specs.Answer.{Answer, gives, refuses, pick, mapA, andThen, also, Test}
 use Rattle.refusal.specs.Reader.{Took, took, Reader, Exactly}
@@ -27,7 +27,7 @@ use Rattle.filestore_base.specs.Meaning.{Filed, filed, kindOf, baseOf, secondAt
 use Rattle.filestore_base.specs.declared.SecondName.{SecondName}
 use Rattle.filestore_base.specs.declared.SecondName.the-variants.{There, Absent}
 use Rattle.filestore_base.specs.declared.FilestoreTlvBase.{FilestoreTlvBase}
-use Rattle.filestore_reader.specs.Rules.{takeOctet, takeIf, takeSecond, takeValue, takeFiled, foundOf, found, readBase, lowBitsTest, leftTest, statusListed, listedTest, strictTest, strictBase}
+use Rattle.filestore_reader.specs.Rules.{takeOctet, takeIf, takeSecond, takeValue, takeFiled, foundOf, found, readBase, statusListed, listedTest, strictTest, strictBase}
 use Rattle.filestore_reader.specs.Inner.{readIfAt, readSecondAt, leftBefore, endIf, withMessage, readMessageAt, readBehind, readNames, readValue}
 use Rattle.filestore_reader.specs.declared.Found.{Found}
 use Rattle.filestore_reader.proofs.Exact.{exactly-if, exactly-second, exactly-filed}
@@ -232,22 +232,6 @@ module _ (d : Bool) (bs : List ℕ) where
       (sym (mapA-mapA (λ (t : Took (Took Filed)). found (t .got)) (λ t. took t (drop end bs)) (takeValue d (slice 2 end bs))))
 
 -- ---- strict reading
-
-pub lowBitsTest-on : (n : ℕ) → n ≡ 0 → lowBitsTest n ≡ gives tt
-unfolding lowBitsTest
-lowBitsTest-on n e = simp (eq-eqb n 0 e)
-
-pub lowBitsTest-off : (n : ℕ) → (n ≡ 0 → ⊥) → lowBitsTest n ≡ refuses 11 (n ∷ [])
-unfolding lowBitsTest
-lowBitsTest-off n e = simp (ne-eqb n 0 e)
-
-pub leftTest-on : (n : ℕ) → n ≡ 0 → leftTest n ≡ gives tt
-unfolding leftTest
-leftTest-on n e = simp (eq-eqb n 0 e)
-
-pub leftTest-off : (n : ℕ) → (n ≡ 0 → ⊥) → leftTest n ≡ refuses 12 (n ∷ [])
-unfolding leftTest
-leftTest-off n e = simp (ne-eqb n 0 e)
 
 pub listedTest-first : (a s : ℕ) → s < 4 → listedTest a s ≡ gives tt
 unfolding listedTest statusListed

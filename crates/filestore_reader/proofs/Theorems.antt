@@ -7,12 +7,10 @@ use mathlib.Core.Bool.{Bool, true, false}
 use mathlib.Core.Option.{Option, some, none}
 use mathlib.Core.List.{List, [], _∷_, _++_, append-assoc, append-nil}
 use lib.ListN.{length, drop, length-append}
-use lib.Dec.{eqb}
-use borrow.Author.Tests.{eqb-true}
 use Rattle.bluebook.specs.Layouts.{Octets, secondPresent, there, lv, lvIf, tlv}
-use Rattle.refusal.specs.Answer.{Answer, gives, mapA}
+use Rattle.refusal.specs.Answer.{Answer, gives, mapA, limitTest}
 use Rattle.refusal.specs.Reader.{Took, took, Exactly}
-use Rattle.refusal.proofs.Laws.{also-both, pick-passed, mapped-by}
+use Rattle.refusal.proofs.Laws.{also-both, pick-passed, limit-passed, mapped-by}
 use Rattle.refusal.proofs.Once.{refusalOf-refused, untold, one-told}
 use Rattle.refusal.proofs.Readers.{exactly-tested}
 use Rattle.splice.specs.Writing.{Wrote}
@@ -113,21 +111,23 @@ NoSlack false m left = (m .low ≡ 0) × (left ≡ [])
 NoSlack true m left = (left ≡ []) × (statusListed (m .action) (m .low) ≡ true)
 
 none-left : (l : List ℕ) → gives tt ≡ leftTest (length l) → l ≡ []
-unfolding leftTest
 none-left [] e = refl
-none-left (y ∷ l) e = absurd (omega (arith, eqb-true (length (y ∷ l)) 0 (pick-passed (eqb (length (y ∷ l)) 0) 12 (length (y ∷ l) ∷ []) e)))
+none-left (y ∷ l) e = absurd (omega (arith, limit-passed 12 0 (length (y ∷ l)) e))
+
+zero-only : (n : ℕ) → n ≤ 0 → n ≡ 0
+zero-only n h = omega arith
 
 pub no-slack : (d : Bool) (m : Filed) (left : List ℕ) → gives tt ≡ strictTest d (m .action) (m .low) (length left) → NoSlack d m left
-unfolding lowBitsTest listedTest
+unfolding listedTest
 no-slack false m left e =
     let p = also-both (lowBitsTest (m .low)) (leftTest (length left)) tt e in
-    (eqb-true (m .low) 0 (pick-passed (eqb (m .low) 0) 11 (m .low ∷ []) (p .0)), none-left left (p .1))
+    (zero-only (m .low) (limit-passed 11 0 (m .low) (p .0)), none-left left (p .1))
 no-slack true m left e =
     let p = also-both (leftTest (length left)) (listedTest (m .action) (m .low)) tt e in
     (none-left left (p .0), pick-passed (statusListed (m .action) (m .low)) 13 (m .low ∷ []) (p .1))
 
 pub slack-none : (d : Bool) (m : Filed) (left : List ℕ) → NoSlack d m left → gives tt ≡ strictTest d (m .action) (m .low) (length left)
-unfolding lowBitsTest leftTest listedTest
+unfolding limitTest listedTest
 slack-none false m left h = sym (rw (h .0, h .1))
 slack-none true m left h = sym (rw (h .0, h .1))
 

@@ -6,7 +6,7 @@ use mathlib.Core.List.{List, [], _∷_}
 use lib.ListN.{length}
 use lib.Dec.{ltb, eqb}
 use Rattle.bluebook.specs.Layouts.{actions, secondPresent}
-use Rattle.refusal.specs.Answer.{Answer, gives, refuses, pick, mapA, andThen, also, Test}
+use Rattle.refusal.specs.Answer.{Answer, gives, refuses, pick, mapA, andThen, also, Test, limitTest}
 use Rattle.refusal.specs.Reader.{Reader, Took, took, inside, tested}
 use Rattle.lv.specs.Rules.{takeLv}
 use Rattle.tlv.specs.Rules.{takeOf}
@@ -64,11 +64,11 @@ readBase response bs = mapA (λ t. found (t .got)) (takeFiled response bs)
 
 -- ---- STRICT READING: as plain, then a request's low bits 11, bytes left in the value 12, a response's status that is not listed 13
 
-unfoldable pub lowBitsTest : ℕ → Test
-lowBitsTest low = pick (eqb low 0) (gives tt) (refuses 11 (low ∷ []))
+abbrev pub lowBitsTest : ℕ → Test
+lowBitsTest low = limitTest 11 0 low
 
-unfoldable pub leftTest : ℕ → Test
-leftTest left = pick (eqb left 0) (gives tt) (refuses 12 (left ∷ []))
+abbrev pub leftTest : ℕ → Test
+leftTest left = limitTest 12 0 left
 
 -- one list for every action
 unfoldable pub statusListed : ℕ → ℕ → Bool

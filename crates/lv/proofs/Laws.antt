@@ -11,7 +11,7 @@ use borrow.Author.Tests.{le-leb, lt-leb, leb-true}
 use Rattle.bluebook.specs.Layouts.{lv}
 use Rattle.refusal.specs.Answer.{Answer, gives, refuses, mapA, also, placeTest}
 use Rattle.refusal.specs.Reader.{took}
-use Rattle.refusal.proofs.Laws.{also-passed, also-refused, also-both, pick-passed, placeTest-in, placeTest-out, placeTest-passed}
+use Rattle.refusal.proofs.Laws.{also-passed, also-refused, also-both, pick-passed, limit-in, limit-over, limit-passed, placeTest-in, placeTest-out, placeTest-passed}
 use Rattle.splice.specs.Laid.{laid, sameBytes}
 use Rattle.splice.specs.Writing.{roomAt, Wrote}
 use Rattle.splice.proofs.Laws.{laid-cons}
@@ -50,15 +50,15 @@ module _ (l : Lv) (bs : List ℕ) where
 
 pub sizeTest-in : (l : Lv) → l .len ≤ 255 → sizeTest l ≡ gives tt
 unfolding sizeTest
-sizeTest-in l h = simp (le-leb _ _ h)
+sizeTest-in l h = limit-in 4 255 (l .len) h
 
 pub sizeTest-over : (l : Lv) → 255 < l .len → sizeTest l ≡ refuses 4 (l .len ∷ [])
 unfolding sizeTest
-sizeTest-over l h = simp (lt-leb _ _ h)
+sizeTest-over l h = limit-over 4 255 (l .len) h
 
 pub sizeTest-passed : (l : Lv) → gives tt ≡ sizeTest l → l .len ≤ 255
 unfolding sizeTest
-sizeTest-passed l e = leb-true _ _ (pick-passed (leb (l .len) 255) 4 (l .len ∷ []) e)
+sizeTest-passed l e = limit-passed 4 255 (l .len) e
 
 pub newLv-in : (start len : ℕ) → len ≤ 255 → newLv start len ≡ gives (span start len)
 unfolding newLv

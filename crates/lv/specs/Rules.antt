@@ -6,7 +6,7 @@ use lib.ListN.{length, take, drop}
 use lib.Seq.{slice}
 use lib.Dec.{leb}
 use Rattle.bluebook.specs.Layouts.{lv}
-use Rattle.refusal.specs.Answer.{Answer, gives, refuses, pick, mapA, also, Test, placeTest}
+use Rattle.refusal.specs.Answer.{Answer, gives, refuses, pick, mapA, also, Test, limitTest, placeTest}
 use Rattle.refusal.specs.Reader.{Reader, took}
 use Rattle.splice.specs.Laid.{sameBytes}
 use Rattle.splice.specs.Writing.{roomFor, roomAt}
@@ -28,7 +28,7 @@ spanTest l bs = pick (leb (l .start + l .len) (length bs)) (gives tt) (refuses 1
 -- ---- BUILDING: 4 with the length where the value is over 255 bytes
 
 unfoldable pub sizeTest : Lv → Test
-sizeTest l = pick (leb (l .len) 255) (gives tt) (refuses 4 (l .len ∷ []))
+sizeTest l = limitTest 4 255 (l .len)
 
 unfoldable pub newLv : ℕ → ℕ → Answer Lv
 newLv start len = also (sizeTest (span start len)) (gives (span start len))

@@ -1,12 +1,12 @@
 -- The laws of answers that the proofs of all crates cite: what becomes of a refusal, and of what is given. Assumes nothing.
-use mathlib.Core.Path.{_≡_, refl, sym, ap, _∙_}
+use mathlib.Core.Path.{_≡_, refl, sym, _∙_}
 use Prim.Native.Nat.{ℕ, _≤_, _<_}
 use native.Mathlib.Omega.{arith}
 use mathlib.Core.Bool.{Bool, true, false, not}
 use mathlib.Core.List.{List, [], _∷_}
 use lib.Dec.{leb}
 use borrow.Author.Tests.{le-leb, lt-leb, leb-true}
-use Rattle.refusal.specs.Answer.{Answer, gives, refuses, pick, mapA, andThen, also, Test, placeTest}
+use Rattle.refusal.specs.Answer.{Answer, gives, refuses, pick, mapA, andThen, also, Test, limitTest, placeTest}
 
 -- ---- what is given
 
@@ -75,16 +75,27 @@ pub not-off : (b : Bool) → not b ≡ false → b ≡ true
 not-off true e = refl
 not-off false e = sym e
 
--- ---- 15
+-- ---- a limit
 
+module _ (number limit x : ℕ) where
+  pub limit-in : x ≤ limit → limitTest number limit x ≡ gives tt
+  unfolding limitTest
+  limit-in h = simp (le-leb _ _ h)
+
+  pub limit-over : limit < x → limitTest number limit x ≡ refuses number (x ∷ [])
+  unfolding limitTest
+  limit-over h = simp (lt-leb _ _ h)
+
+  pub limit-passed : gives tt ≡ limitTest number limit x → x ≤ limit
+  unfolding limitTest
+  limit-passed e = leb-true _ _ (pick-passed (leb x limit) number (x ∷ []) e)
+
+-- 15
 pub placeTest-in : (place n : ℕ) → place ≤ n → placeTest place n ≡ gives tt
-unfolding placeTest
-placeTest-in place n h = simp (le-leb _ _ h)
+placeTest-in place n h = limit-in 15 n place h
 
 pub placeTest-out : (place n : ℕ) → n < place → placeTest place n ≡ refuses 15 (place ∷ [])
-unfolding placeTest
-placeTest-out place n h = simp (lt-leb _ _ h)
+placeTest-out place n h = limit-over 15 n place h
 
 pub placeTest-passed : (place n : ℕ) → gives tt ≡ placeTest place n → place ≤ n
-unfolding placeTest
-placeTest-passed place n e = leb-true _ _ (pick-passed (leb place n) 15 (place ∷ []) e)
+placeTest-passed place n e = limit-passed 15 n place e

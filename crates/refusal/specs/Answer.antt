@@ -31,6 +31,10 @@ also a b = andThen a (λ _. b)
 abbrev pub Test : Type 0
 Test = Answer (Unit {0})
 
+-- a refusal with x where it is over a limit
+unfoldable pub limitTest : ℕ → ℕ → ℕ → Test
+limitTest number limit x = pick (leb x limit) (gives tt) (refuses number (x ∷ []))
+
 -- 15 with the place where it is past the end of n bytes; the end itself is a place
-unfoldable pub placeTest : ℕ → ℕ → Test
-placeTest place n = pick (leb place n) (gives tt) (refuses 15 (place ∷ []))
+abbrev pub placeTest : ℕ → ℕ → Test
+placeTest place n = limitTest 15 n place

@@ -6,7 +6,8 @@ use mathlib.Core.List.{[], _∷_}
 use lib.ListN.{length}
 use Rattle.refusal.specs.Answer.{gives, refuses}
 use Rattle.refusal.specs.Told.{toldChecked}
-use Rattle.filestore_base.proofs.Laws.{buildTest-refused, buildTest-length, lengthTest-over, lengthTest-in}
+use Rattle.refusal.proofs.Laws.{limit-in, limit-over}
+use Rattle.filestore_base.proofs.Laws.{buildTest-refused, buildTest-length}
 use Rattle.filestore_base.specs.Rules.{partsTest}
 use borrow.Author.Needs.{needs}
 use Rattle.filestore_base.proofs.FilestoreTlvBase.build_test.Statement.{statement}
@@ -34,10 +35,10 @@ len-requires c κs = passed c
 returns-2 : tie.Need-returns-2
 returns-2 c =
     ap (λ (n : ℕ). refuses 5 (n ∷ [])) (c .before .len .ensures)
-    ∙ sym (buildTest-length _ (passed (c .before .before)) ∙ lengthTest-over _ (omega (arith, c .before .len .ensures, c .if1 .taken)))
+    ∙ sym (buildTest-length _ (passed (c .before .before)) ∙ limit-over 5 255 _ (omega (arith, c .before .len .ensures, c .if1 .taken)))
 
 returns-3 : tie.Need-returns-3
-returns-3 c = sym (buildTest-length _ (passed (c .before .before)) ∙ lengthTest-in _ (omega (arith, c .before .len .ensures, c .if1 .left)))
+returns-3 c = sym (buildTest-length _ (passed (c .before .before)) ∙ limit-in 5 255 _ (omega (arith, c .before .len .ensures, c .if1 .left)))
 
 pub build-test-spec : {M : Type 1} → statement M
 build-test-spec =
