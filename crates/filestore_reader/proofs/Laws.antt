@@ -18,7 +18,7 @@ use Rattle.lv.specs.Rules.{span, takeLv, readLvAt}
 use Rattle.lv.specs.declared.Lv.{Lv}
 use Rattle.lv.proofs.Laws.{readLvAt-in}
 use Rattle.lv.proofs.Theorems.{exactly-lv}
-use Rattle.tlv.specs.Rules.{takeOf, lenOf}
+use Rattle.tlv.specs.Rules.{takeOf, lenOfType}
 use Rattle.tlv.proofs.Theorems as tlvs
 use Rattle.action.specs.Rules.{codeOf, actionAt, actionOf, dueOf}
 use Rattle.action.specs.declared.FilestoreActionCode.{FilestoreActionCode}
@@ -221,11 +221,11 @@ module _ (bs : List ℕ) (end : ℕ) (d : Bool) where
 -- ---- the whole TLV
 
 module _ (d : Bool) (bs : List ℕ) where
-  pub readBase-refused : (n : ℕ) (vs : List ℕ) → refuses n vs ≡ lenOf (kindOf d) bs → refuses n vs ≡ readBase d bs
-  unfolding readBase lenOf
+  pub readBase-refused : (n : ℕ) (vs : List ℕ) → refuses n vs ≡ lenOfType (kindOf d) bs → refuses n vs ≡ readBase d bs
+  unfolding readBase lenOfType
   readBase-refused n vs e = rw (← mapA-refused (λ (v : Took (List ℕ)). 2 + length (v .got)) (takeOf (kindOf d) bs) n vs e)
 
-  pub readBase-value : (end : ℕ) → gives end ≡ lenOf (kindOf d) bs → readValue bs end d ≡ readBase d bs
+  pub readBase-value : (end : ℕ) → gives end ≡ lenOfType (kindOf d) bs → readValue bs end d ≡ readBase d bs
   unfolding readBase readValue
   readBase-value end e =
       rw (tlvs.found (kindOf d) bs end (sym e) .taken)

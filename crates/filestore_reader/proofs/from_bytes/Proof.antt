@@ -4,7 +4,7 @@ use Prim.Native.Nat.{ℕ, _-_}
 use lib.ListN.{length}
 use Rattle.refusal.specs.Told.{toldLength}
 use Rattle.refusal.specs.declared.Length.{Length}
-use Rattle.tlv.specs.Rules.{lenOf}
+use Rattle.tlv.specs.Rules.{lenOfType}
 use Rattle.tlv.proofs.Theorems as tlvs
 use Rattle.filestore_base.specs.Meaning.{kindOf}
 use Rattle.filestore_reader.proofs.Laws.{readBase-refused, readBase-value}
@@ -22,10 +22,10 @@ enum-known-end : tie.Need-enum-known-end
 enum-known-end c = search needs
 
 -- what the TLV's length told, by the arm that it led to
-told : (c : tie.After-len-of) (x : Length) → c .len-of .result ≡ x → (let a = c .before .before .before .args in toldLength x ≡ lenOf (kindOf (a .response)) (a .buf .now))
+told : (c : tie.After-len-of) (x : Length) → c .len-of .result ≡ x → (let a = c .before .before .before .args in toldLength x ≡ lenOfType (kindOf (a .response)) (a .buf .now))
 told c x e =
     let a = c .before .before .before .args in
-    sym (ap toldLength e) ∙ c .len-of .ensures ∙ ap (λ (t : ℕ). lenOf t (a .buf .now)) (c .before .tlv-type .ensures)
+    sym (ap toldLength e) ∙ c .len-of .ensures ∙ ap (λ (t : ℕ). lenOfType t (a .buf .now)) (c .before .tlv-type .ensures)
 
 value-before-requires : tie.Need-value-before-requires
 value-before-requires c κs = let f = tlvs.found _ _ _ (sym (told (c .before .before .before) _ (c .before .end .given .1))) in (f .behind, f .inside)
