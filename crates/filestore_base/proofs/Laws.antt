@@ -20,7 +20,7 @@ use Rattle.lv.specs.Rules as lvs
 use Rattle.lv.specs.declared.Lv.{Lv}
 use Rattle.lv.proofs.Laws.{sizeTest-in, sizeTest-passed, spanTest-in, spanTest-passed, writeTest-passed, writeLvAt-laid, length-partOf}
 use Rattle.action.specs.Rules.{codeOf, dueOf}
-use Rattle.filestore_base.specs.Meaning.{Filed, kindOf, isThere, partIf, meaning, partsOf, valueOf, tlvOf}
+use Rattle.filestore_base.specs.Meaning.{Filed, kindOf, isThere, partIf, meaning, partsOf, valueOf, filedTlv}
 use Rattle.filestore_base.specs.Rules.{sizeIf, spanIf, lenIf, dueTest, statusTest, partsTest, lenOf, lengthTest, buildTest, lenValue, lenFull, spansTest, writeTest, writeBase, sameIf, sameOctet, sameParts, sameBase, FitsIf}
 use Rattle.filestore_base.specs.declared.SecondName.{SecondName}
 use Rattle.filestore_base.specs.declared.SecondName.the-variants.{There, Absent}
@@ -198,16 +198,16 @@ module _ (b : FilestoreTlvBase) (src old : List ℕ) where
   writeBase-refused n vs e = wrote-refused 0 old (writeTest b src) _ n vs e
 
   module _ (fine : gives tt ≡ writeTest b src) where
-    pub length-tlv : length (tlvOf (meaning b src)) ≡ lenOf b + 2
+    pub length-tlv : length (filedTlv (meaning b src)) ≡ lenOf b + 2
     length-tlv = omega (arith, length-value b src (writable b src fine .spans))
 
     pub writeBase-small : (n : ℕ) → n ≡ lenOf b → length old < n + 2 → Wrote 0 (writeBase b src (length old)) (refuses 2 (length old ∷ (n + 2) ∷ [])) old old
     unfolding writeBase
     writeBase-small n e h =
-        let k : length (tlvOf (meaning b src)) ≡ n + 2 = length-tlv ∙ ap (λ (j : ℕ). j + 2) (sym e) in
+        let k : length (filedTlv (meaning b src)) ≡ n + 2 = length-tlv ∙ ap (λ (j : ℕ). j + 2) (sym e) in
         wrote-passed fine
         (wrote-not 0 old _ 2 (length old ∷ (n + 2) ∷ [])
-        (sym (roomFor-out (length old) (tlvOf (meaning b src)) (omega arith) ∙ ap (λ (j : ℕ). refuses 2 (length old ∷ j ∷ [])) k)))
+        (sym (roomFor-out (length old) (filedTlv (meaning b src)) (omega arith) ∙ ap (λ (j : ℕ). refuses 2 (length old ∷ j ∷ [])) k)))
 
     -- names and message laid one behind the other
     pub parts-laid : (at next : ℕ) (d₁ d₂ d₃ : List ℕ) → lenOf b + 2 ≤ length old → at ≡ b .«first_name» .len + 4 → next ≡ at + lenIf (b .«second_name»)
@@ -236,7 +236,7 @@ module _ (b : FilestoreTlvBase) (src old : List ℕ) where
         let k : length (set old 0 t) ≡ length old = length-set old 0 t in
         let j : length (set (set old 0 t) 1 n) ≡ length old = length-set (set old 0 t) 1 n ∙ k in
         wrote-passed fine
-        (wrote 0 old _ (tlvOf m) new (n + 2) (roomFor-in (length old) (tlvOf m) (omega (arith, length-tlv))) (ap (λ (j : ℕ). j + 2) en ∙ sym length-tlv)
+        (wrote 0 old _ (filedTlv m) new (n + 2) (roomFor-in (length old) (filedTlv m) (omega (arith, length-tlv))) (ap (λ (j : ℕ). j + 2) en ∙ sym length-tlv)
         (e ∙ laid-cons 2 o (partsOf m) (set (set old 0 t) 1 n) (omega (arith, v, j))
         ∙ laid-cons 1 n (o ∷ partsOf m) (set old 0 t) (omega (arith, v, k))
         ∙ laid-cons 0 t (n ∷ o ∷ partsOf m) old (omega (arith, v))

@@ -18,7 +18,7 @@ use Rattle.splice.proofs.Laws.{same-equal}
 use Rattle.splice.proofs.Writing.{gives-room}
 use Rattle.lv.proofs.Laws.{sizeTest-in}
 use Rattle.action.specs.Rules.{dueOf}
-use Rattle.filestore_base.specs.Meaning.{Filed, filed, isThere, meaning, tlvOf}
+use Rattle.filestore_base.specs.Meaning.{Filed, filed, isThere, meaning, filedTlv}
 use Rattle.filestore_base.specs.Rules.{sizeIf, lenIf, dueTest, lenOf, buildTest, lenFull, spansTest, writeTest, writeBase, sameIf, sameOctet, sameParts, sameBase}
 use Rattle.filestore_base.specs.declared.SecondName.{SecondName}
 use Rattle.filestore_base.specs.declared.SecondName.the-variants.{There, Absent}
@@ -70,21 +70,21 @@ builds b = (
 pub record Writes (b : FilestoreTlvBase) (src : List ℕ) (n : ℕ) (bs : List ℕ) : Type 0 where
   pub buildable : Buildable b
   pub inside : Spans b src
-  pub room : length (tlvOf (meaning b src)) ≤ n
-  pub bytes : bs ≡ tlvOf (meaning b src)
+  pub room : length (filedTlv (meaning b src)) ≤ n
+  pub bytes : bs ≡ filedTlv (meaning b src)
 
 pub writes : (b : FilestoreTlvBase) (src : List ℕ) (n : ℕ) (bs : List ℕ) → (writeBase b src n ≡ gives bs) ↔ Writes b src n bs
 unfolding writeBase
 writes b src n bs = (
   λ e.
-      let g = gives-room (writeTest b src) n (tlvOf (meaning b src)) bs .0 e in
+      let g = gives-room (writeTest b src) n (filedTlv (meaning b src)) bs .0 e in
       let w = writable b src (g .0) in
       record { buildable = builds b .0 (w .built); inside = w .spans; room = g .1; bytes = g .2 },
-  λ h. gives-room (writeTest b src) n (tlvOf (meaning b src)) bs .1 (write-passed b src (builds b .1 (h .buildable)) (h .inside), h .room, h .bytes),
+  λ h. gives-room (writeTest b src) n (filedTlv (meaning b src)) bs .1 (write-passed b src (builds b .1 (h .buildable)) (h .inside), h .room, h .bytes),
 )
 
 -- the same with the layout in other words
-pub writes-as : (b : FilestoreTlvBase) (src : List ℕ) (n : ℕ) (bs layout : List ℕ) → tlvOf (meaning b src) ≡ layout
+pub writes-as : (b : FilestoreTlvBase) (src : List ℕ) (n : ℕ) (bs layout : List ℕ) → filedTlv (meaning b src) ≡ layout
     → (writeBase b src n ≡ gives bs) ↔ (Buildable b × Spans b src × (length layout ≤ n) × (bs ≡ layout))
 writes-as b src n bs layout e = (
   λ g.

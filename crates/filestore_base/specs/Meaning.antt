@@ -38,8 +38,8 @@ abbrev pub kindOf : Bool → ℕ
 kindOf true = filestoreResponse
 kindOf false = filestoreRequest
 
-abbrev pub tlvOf : Filed → List ℕ
-tlvOf m = tlv (kindOf (there (m .message))) (valueOf m)
+abbrev pub filedTlv : Filed → List ℕ
+filedTlv m = tlv (kindOf (there (m .message))) (valueOf m)
 
 -- ---- from spans to meaning
 

@@ -12,7 +12,7 @@ use Rattle.splice.specs.Writing.{roomFor}
 use Rattle.lv.specs.Rules.{spanTest, sizeTest}
 use Rattle.lv.specs.Rules as lvs
 use Rattle.action.specs.Rules.{codeOf, dueOf}
-use Rattle.filestore_base.specs.Meaning.{Filed, tlvOf, meaning}
+use Rattle.filestore_base.specs.Meaning.{Filed, filedTlv, meaning}
 use Rattle.filestore_base.specs.declared.SecondName.{SecondName}
 use Rattle.filestore_base.specs.declared.SecondName.the-variants.{There, Absent}
 use Rattle.filestore_base.specs.declared.FilestoreTlvBase.{FilestoreTlvBase}
@@ -82,7 +82,7 @@ unfoldable pub writeTest : FilestoreTlvBase → List ℕ → Test
 writeTest b src = also (buildTest b) (spansTest b src)
 
 unfoldable pub writeBase : FilestoreTlvBase → List ℕ → ℕ → Answer (List ℕ)
-writeBase b src n = also (writeTest b src) (roomFor n (tlvOf (meaning b src)))
+writeBase b src n = also (writeTest b src) (roomFor n (filedTlv (meaning b src)))
 
 -- ---- COMPARING: 15 for the first, then for the second; then whether all that they mean is the same
 

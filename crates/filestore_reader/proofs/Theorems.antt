@@ -21,7 +21,7 @@ use Rattle.lv.proofs.Theorems.{selects, octets-front}
 use Rattle.action.specs.Rules.{codeOf, dueOf}
 use Rattle.action.specs.declared.FilestoreActionCode.{FilestoreActionCode}
 use Rattle.action.proofs.Laws.{code-back, code-known}
-use Rattle.filestore_base.specs.Meaning.{Filed, filed, isThere, partIf, kindOf, partsOf, valueOf, tlvOf, meaning, secondAt, placed}
+use Rattle.filestore_base.specs.Meaning.{Filed, filed, isThere, partIf, kindOf, partsOf, valueOf, filedTlv, meaning, secondAt, placed}
 use Rattle.filestore_base.specs.Rules.{spanIf, lenOf, writeTest, writeBase, sameBase}
 use Rattle.filestore_base.specs.declared.FilestoreTlvBase.{FilestoreTlvBase}
 use Rattle.filestore_base.proofs.Laws.{Spans, there-if, length-value, writable, write-passed}
@@ -192,7 +192,7 @@ read-octets d bs m left rest o e =
 -- ---- what was written is found again, with the same meaning and nothing left
 
 pub record Back (b : FilestoreTlvBase) (src old new : List ℕ) : Type 0 where
-  pub bytes : new ≡ tlvOf (meaning b src) ++ drop (lenOf b + 2) old
+  pub bytes : new ≡ filedTlv (meaning b src) ++ drop (lenOf b + 2) old
   pub read : readBase (isThere (b .message)) new ≡ gives (foundOf (placed (meaning b src)) 0)
   pub means : meaning (placed (meaning b src)) new ≡ meaning b src
   pub same : sameBase b src (placed (meaning b src)) new ≡ gives true
@@ -210,11 +210,11 @@ unfolding writeBase readBase
 read-back b src old new k w =
     let m = meaning b src in
     let d = isThere (b .message) in
-    let l = left-by (writeTest b src) (tlvOf m) old new k w in
+    let l = left-by (writeTest b src) (filedTlv m) old new k w in
     let g = writable b src (l .passed) in
     let ok = filed-ok b src (builds b .0 (g .built)) in
-    let n : length (tlvOf m) ≡ lenOf b + 2 = omega (arith, length-value b src (g .spans)) in
-    let bytes : new ≡ tlvOf m ++ drop (lenOf b + 2) old = l .bytes ∙ ap (λ (j : ℕ). tlvOf m ++ drop j old) n in
+    let n : length (filedTlv m) ≡ lenOf b + 2 = omega (arith, length-value b src (g .spans)) in
+    let bytes : new ≡ filedTlv m ++ drop (lenOf b + 2) old = l .bytes ∙ ap (λ (j : ℕ). filedTlv m ++ drop j old) n in
     let s : new ≡ stands d m [] (drop (lenOf b + 2) old) =
     bytes ∙ (λ i. tlv (kindOf (there-if (b .message) src i)) (sym (append-nil (valueOf m)) i) ++ drop (lenOf b + 2) old) in
     let e : meaning (placed m) new ≡ m = ap (meaning (placed m)) s ∙ means-back d m [] (drop (lenOf b + 2) old) ok in
@@ -229,7 +229,7 @@ read-back b src old new k w =
 pub back-ok : (b : FilestoreTlvBase) (src old new : List ℕ) (k : ℕ) → Wrote 0 (writeBase b src (length old)) (gives k) old new → FiledOk (isThere (b .message)) (meaning b src)
 unfolding writeBase
 back-ok b src old new k w =
-    filed-ok b src (builds b .0 (writable b src (left-by (writeTest b src) (tlvOf (meaning b src)) old new k w .passed) .built))
+    filed-ok b src (builds b .0 (writable b src (left-by (writeTest b src) (filedTlv (meaning b src)) old new k w .passed) .built))
 
 -- ---- ONE ANSWER: of `from_bytes` and `from_bytes_strict`
 
