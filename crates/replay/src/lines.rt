@@ -1,5 +1,4 @@
 // Cuts the input into lines, and writes each back with its answer.
-use crate::answers;
 use crate::calls;
 use crate::text;
 
@@ -12,22 +11,21 @@ fn copied(line: &[u8]) -> bool {
 }
 
 // Writes a line back, and its answer.
-fn answered(line: &[u8], a: &mut [u8], b: &mut [u8]) {
-    answers::word(line);
-    if copied(line) {
-        return answers::word(b"\n");
+fn answered(line: &[u8]) {
+    replay_answers::line(line);
+    if !copied(line) {
+        replay_answers::equals_sign();
+        calls::answer(line);
     }
-    answers::word(b" = ");
-    calls::answer(line, a, b);
-    answers::word(b"\n");
+    replay_answers::line_end();
 }
 
-// Each line in its turn. A last line that no line end follows counts as a line. a and b are room for the bytes arguments.
-pub fn run(input: &[u8], a: &mut [u8], b: &mut [u8]) {
+// Each line in its turn. A last line that no line end follows counts as a line.
+pub fn run(input: &[u8]) {
     let mut at: usize = 0;
     while at < input.len() {
         let end = text::find(input, b'\n', at);
-        answered(text::part(input, at, end), a, b);
+        answered(text::part(input, at, end));
         if input.len() <= end {
             return;
         }

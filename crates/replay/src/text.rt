@@ -1,4 +1,4 @@
-// Small steps on text: finding a byte, taking a part, finding an entry of a list.
+// Small steps on text: finding a byte, taking a byte or a part, looking a name up in a list.
 ghost use Prim.Native.Nat.{_≤_};
 
 // The place of the first byte `what` from the place from on, or the length where there is none.
@@ -26,40 +26,32 @@ pub fn part(s: &[u8], start: usize, end: usize) -> &[u8] {
     &s[start..end]
 }
 
-// An entry of a list: which it is, counted from 0, and where its text behind the name stands.
+// An entry of a list: which it is, counted from 0, and the places of the space behind its name and of its end.
 pub struct Entry {
     pub place: usize,
-    pub from: usize,
-    pub to: usize,
+    pub space: usize,
+    pub end: usize,
 }
 
 // Looks a name up in a list of entries `NAME TEXT` with bars between them. Without such a name the place is one that no entry has.
 pub fn looked_up(list: &[u8], name: &[u8]) -> Entry {
-    let mut k: usize = 0;
+    let mut place: usize = 0;
     let mut at: usize = 0;
     while at < list.len() {
         let end = find(list, b'|', at);
         let space = find(list, b' ', at);
         if splice::same(name, part(list, at, space)) {
-            return Entry {
-                place: k,
-                from: space,
-                to: end,
-            };
+            return Entry { place, space, end };
         }
-        k += 1;
         if list.len() <= end {
-            return Entry {
-                place: k,
-                from: 0,
-                to: 0,
-            };
+            break;
         }
+        place += 1;
         at = end + 1;
     }
     Entry {
-        place: k,
-        from: 0,
-        to: 0,
+        place: list.len(),
+        space: 0,
+        end: 0,
     }
 }

@@ -1,64 +1,69 @@
--- Each step uses some of the text, and no more than is left, which falls. The buffer keeps its length.
+-- Each turn takes a byte of the text, and what is left of it falls. The buffer's length stays.
 use borrow.Author.Needs.{needs}
 use Prim.Native.Nat.{_-_}
-use mathlib.Core.Path.{_≡_}
 use lib.ListN.{length}
+use mathlib.Core.Path.{_≡_}
 use Rattle.replay.proofs.notation.read.Statement.{statement}
 use Rattle.replay.proofs.notation.read.Tie as tie
+use Rattle.replay.proofs.notation.read.Reads as reads
+use Rattle.replay.proofs.notation.read.Lts as lts
+use Rattle.replay.proofs.notation.Piece.with.Reads as with-reads
+use Rattle.replay.proofs.notation.Piece.with_dot.Reads as with-dot-reads
+use Rattle.replay.proofs.notation.stored.Reads as stored-reads
 
 abbrev Inv-loop : tie.InvT-loop
-Inv-loop s buf₀ n₀ at₀ buf n at = length buf ≡ length buf₀
+Inv-loop s buf₀ p₀ n₀ i₀ buf p n i = length buf ≡ length buf₀
 
 abbrev μ-loop : tie.MeasureT-loop
-μ-loop s buf₀ n₀ at₀ buf n at = length s - at
+μ-loop s buf₀ p₀ n₀ i₀ buf p n i = length s - i
 
-loop-holds : tie.Need-loop-holds Inv-loop μ-loop
-loop-holds c = search needs
-
-sub-next : tie.Need-sub-next Inv-loop μ-loop
-sub-next c = search needs
-
-part-next-start : tie.Need-part-next-start Inv-loop μ-loop
-part-next-start c = search needs
-
-part-next-end : tie.Need-part-next-end Inv-loop μ-loop
-part-next-end c = search needs
-
-next-requires : tie.Need-next-requires Inv-loop μ-loop
-next-requires c κs = search needs
-
-repeated-requires : tie.Need-repeated-requires Inv-loop μ-loop
-repeated-requires c κs = search needs
-
-sub-if1 : tie.Need-sub-if1 Inv-loop μ-loop
-sub-if1 c = search needs
-
-same-length : tie.Need-same-length Inv-loop μ-loop
-same-length c = search needs
-
+-- src/notation.rt:143:9
 returns : tie.Need-returns Inv-loop μ-loop
 returns c = search needs
 
-same-length-2 : tie.Need-same-length-2 Inv-loop μ-loop
-same-length-2 c = search needs
+-- src/notation.rt:154:5
+loop-holds : tie.Need-loop-holds Inv-loop μ-loop
+loop-holds c = search needs
 
-returns-2 : tie.Need-returns-2 Inv-loop μ-loop
-returns-2 c = search needs
+-- src/notation.rt:155:20
+shared-slice-read-with : tie.Need-shared-slice-read-with Inv-loop μ-loop
+shared-slice-read-with c = search needs
 
-add-at : tie.Need-add-at Inv-loop μ-loop
-add-at c = search needs
+-- src/notation.rt:155:9
+with-requires : tie.Need-with-requires Inv-loop μ-loop
+with-requires c κs = search needs
 
+-- src/notation.rt:156:9
+stored-requires : tie.Need-stored-requires Inv-loop μ-loop
+stored-requires c κs = search needs
+
+-- src/notation.rt:157:9
+add-i : tie.Need-add-i Inv-loop μ-loop
+add-i c = search needs
+
+-- src/notation.rt:154:5
 loop-less : tie.Need-loop-less Inv-loop μ-loop
 loop-less c = search needs
 
+-- src/notation.rt:154:5
 loop-again : tie.Need-loop-again Inv-loop μ-loop
 loop-again c = search needs
 
-same-length-3 : tie.Need-same-length-3 Inv-loop μ-loop
-same-length-3 c = search needs
+-- src/notation.rt:159:12
+with-dot-requires : tie.Need-with-dot-requires Inv-loop μ-loop
+with-dot-requires c κs = search needs
 
-returns-3 : tie.Need-returns-3 Inv-loop μ-loop
-returns-3 c = search needs
+-- src/notation.rt:159:5
+stored-requires-2 : tie.Need-stored-requires-2 Inv-loop μ-loop
+stored-requires-2 c κs = search needs
+
+-- src/notation.rt:141:1
+same-length : tie.Need-same-length Inv-loop μ-loop
+same-length c = search needs
+
+-- src/notation.rt:141:1
+returns-2 : tie.Need-returns-2 Inv-loop μ-loop
+returns-2 c = search needs
 
 pub read-spec : {M : Type 1} → statement M
 read-spec =
@@ -66,19 +71,15 @@ read-spec =
     (tie.spec
     Inv-loop
     μ-loop
-    loop-holds
-    sub-next
-    part-next-start
-    part-next-end
-    next-requires
-    repeated-requires
-    sub-if1
-    same-length
     returns
-    same-length-2
-    returns-2
-    add-at
+    loop-holds
+    shared-slice-read-with
+    with-requires
+    stored-requires
+    add-i
     loop-less
     loop-again
-    same-length-3
-    returns-3)
+    with-dot-requires
+    stored-requires-2
+    same-length
+    returns-2)

@@ -1,9 +1,14 @@
--- Each turn takes a letter, and a word only where the line goes on. The letters that are left fall.
+-- Each turn takes a letter; what is left of the letters falls. Assumes nothing.
 use borrow.Author.Needs.{needs}
 use Prim.Native.Nat.{_-_}
 use lib.ListN.{length}
 use Rattle.replay.proofs.args.Args.read.Statement.{statement}
 use Rattle.replay.proofs.args.Args.read.Tie as tie
+use Rattle.replay.proofs.args.Args.read.Reads as reads
+use Rattle.replay.proofs.args.Args.read.Lts as lts
+use Rattle.replay.proofs.args.Args.with.Reads as with-reads
+use Rattle.replay.proofs.args.new.Reads as new-reads
+use Rattle.replay.proofs.word.Word.read.Reads as read-reads
 
 abbrev Inv-loop : tie.InvT-loop
 Inv-loop line from letters call args₀ at₀ k₀ args at k = Unit
@@ -11,48 +16,55 @@ Inv-loop line from letters call args₀ at₀ k₀ args at k = Unit
 abbrev μ-loop : tie.MeasureT-loop
 μ-loop line from letters call args₀ at₀ k₀ args at k = length letters - k
 
-loop-holds : tie.Need-loop-holds Inv-loop μ-loop
-loop-holds c = search needs
+-- src/args.rt:105:13
+new-requires : tie.Need-new-requires Inv-loop μ-loop
+new-requires c κs = search needs
 
+-- src/args.rt:105:13
 returns : tie.Need-returns Inv-loop μ-loop
 returns c = search needs
 
-add-find : tie.Need-add-find Inv-loop μ-loop
-add-find c = search needs
+-- src/args.rt:107:34
+shared-slice-read-new : tie.Need-shared-slice-read-new Inv-loop μ-loop
+shared-slice-read-new c = search needs
 
-find-requires : tie.Need-find-requires Inv-loop μ-loop
-find-requires c κs = search needs
+-- src/args.rt:107:13
+new-requires-2 : tie.Need-new-requires-2 Inv-loop μ-loop
+new-requires-2 c κs = search needs
 
+-- src/args.rt:110:9
+loop-holds : tie.Need-loop-holds Inv-loop μ-loop
+loop-holds c = search needs
+
+-- src/args.rt:111:26
 shared-slice-read-letter : tie.Need-shared-slice-read-letter Inv-loop μ-loop
 shared-slice-read-letter c = search needs
 
-add-part : tie.Need-add-part Inv-loop μ-loop
-add-part c = search needs
-
-part-requires : tie.Need-part-requires Inv-loop μ-loop
-part-requires c κs = search needs
-
-add-value : tie.Need-add-value Inv-loop μ-loop
-add-value c = search needs
-
-value-requires : tie.Need-value-requires Inv-loop μ-loop
-value-requires c κs = search needs
-
-with-requires : tie.Need-with-requires Inv-loop μ-loop
-with-requires c κs = search needs
-
+-- src/args.rt:112:13
 add-k : tie.Need-add-k Inv-loop μ-loop
 add-k c = search needs
 
+-- src/args.rt:113:17
+read-requires : tie.Need-read-requires Inv-loop μ-loop
+read-requires c κs = search needs
+
+-- src/args.rt:114:13
+with-requires : tie.Need-with-requires Inv-loop μ-loop
+with-requires c κs = search needs
+
+-- src/args.rt:110:9
 loop-less : tie.Need-loop-less Inv-loop μ-loop
 loop-less c = search needs
 
+-- src/args.rt:110:9
 loop-again : tie.Need-loop-again Inv-loop μ-loop
 loop-again c = search needs
 
+-- src/args.rt:103:5
 returns-2 : tie.Need-returns-2 Inv-loop μ-loop
 returns-2 c = search needs
 
+-- src/args.rt:103:5
 returns-3 : tie.Need-returns-3 Inv-loop μ-loop
 returns-3 c = search needs
 
@@ -62,17 +74,15 @@ read-spec =
     (tie.spec
     Inv-loop
     μ-loop
-    loop-holds
+    new-requires
     returns
-    add-find
-    find-requires
+    shared-slice-read-new
+    new-requires-2
+    loop-holds
     shared-slice-read-letter
-    add-part
-    part-requires
-    add-value
-    value-requires
-    with-requires
     add-k
+    read-requires
+    with-requires
     loop-less
     loop-again
     returns-2

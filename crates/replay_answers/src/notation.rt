@@ -1,0 +1,53 @@
+// The notation for bytes: an `x`, then pieces with a `.` between them. A piece is pairs of hexadecimal digits, or one pair with `*COUNT` behind
+// it, which stands for that byte COUNT times.
+use crate::forms;
+ghost use Prim.Native.Nat.{_≤_};
+
+// The place of the first byte from the place from on that is not x, or the length.
+fn run_end(s: &[u8], x: u8, from: usize) -> usize
+    ensures { λ r. ⌜ from ≤ r ⌝ }
+{
+    let mut i = from;
+    while i < s.len() {
+        if s[i] != x {
+            return i;
+        }
+        i += 1;
+    }
+    i
+}
+
+// Says a byte that stands count times in a row: 5 times or more in a piece of its own. before is the count said before, 0 at the start.
+fn say_run(x: u8, count: usize, before: usize) {
+    if count < 5 {
+        if 4 < before {
+            forms::say(forms::DOT, 0, 0);
+        }
+        io::print_hex(libc::STDOUT_FILENO, x as u64, 2);
+    } else {
+        if 0 < before {
+            forms::say(forms::DOT, 0, 0);
+        }
+        io::print_hex(libc::STDOUT_FILENO, x as u64, 2);
+        forms::say(forms::TIMES, count, 0);
+    }
+}
+
+// Says bytes in the one form that is given back: a run of 5 or more equal bytes is a piece of its own, the others stand as pairs.
+pub fn say(s: &[u8]) {
+    forms::say(forms::BYTES, 0, 0);
+    let mut before: usize = 0;
+    let mut i: usize = 0;
+    while i < s.len() {
+        let x = s[i];
+        let end = run_end(s, x, i + 1);
+        let count = end - i;
+        say_run(x, count, before);
+        before = count;
+        if count < 5 {
+            i += 1;
+        } else {
+            i = end;
+        }
+    }
+}

@@ -1,0 +1,94 @@
+// Makes the calls of the library that the cases of replay ask for, and says what they answer. Nothing lent is changed: a writer writes to a copy.
+// What a call takes is told by Words. The calls are made in tables, one for each type of answer: in plain (answers that are no refusals),
+// readers, requests, sames and writers. values has what the words stand for, names the numbers of the calls.
+pub mod names;
+mod plain;
+mod readers;
+mod requests;
+mod sames;
+mod values;
+mod writers;
+
+ghost use mathlib.Core.Path.{_≡_};
+ghost use lib.ListN.{length};
+
+// The last nine numbers among the words, in order: a call of two numbers has them in n8 and n9. A type field is a number, and a second name
+// is three: 1 where it is there, its start and its length.
+pub struct Words {
+    pub n1: usize,
+    pub n2: usize,
+    pub n3: usize,
+    pub n4: usize,
+    pub n5: usize,
+    pub n6: usize,
+    pub n7: usize,
+    pub n8: usize,
+    pub n9: usize,
+}
+
+// The calls that take no bytes, and those that take a source and no buffer.
+fn of_values(call: usize, kind: u8, w: Words) {
+    match kind {
+        b'b' => replay_answers::truth(plain::truth(call, w)),
+        b'c' => replay_answers::count(plain::count(call, w)),
+        b'f' => replay_answers::field(plain::field(call, w)),
+        b't' => replay_answers::standard(plain::standard(call, w)),
+        b'm' => replay_answers::second(plain::second(call, w)),
+        b'a' => replay_answers::action(readers::action(call, w)),
+        _ => replay_answers::bad(),
+    }
+}
+
+fn of_source(call: usize, kind: u8, w: Words, a: &[u8]) {
+    match kind {
+        b'x' => replay_answers::bytes(readers::part(call, w, a)),
+        b'k' => replay_answers::checked(readers::test(call, w, a)),
+        b'l' => replay_answers::length(readers::length(call, w, a)),
+        b's' => replay_answers::lv(readers::lv(call, w, a)),
+        b'v' => replay_answers::tlv(readers::tlv(call, w, a)),
+        b'e' => replay_answers::entity(readers::entity(call, w, a)),
+        b'q' => replay_answers::request(requests::request(call, w, a)),
+        b'r' => replay_answers::response(requests::response(call, w, a)),
+        b'n' => replay_answers::number(number::read(a)),
+        _ => of_values(call, kind, w),
+    }
+}
+
+// Room for a buffer. The clause is what lending the array as a slice needs.
+fn room() -> [u8; 66000]
+    ensures { λ r. ⌜ 66000 ≡ length r ⌝ }
+{
+    [0; 66000]
+}
+
+// Writes to b, and says it with the answer.
+fn written(call: usize, kind: u8, left: Words, w: Words, a: &[u8], b: &mut [u8]) {
+    match kind {
+        b'u' => replay_answers::tlv_written(values::entity(w.n8, w.n9).to_tlv(b), b),
+        _ => replay_answers::written(writers::written(call, left, w, a, b), b),
+    }
+}
+
+// Those that write, to a copy of the buffer b.
+fn of_buffer(call: usize, kind: u8, left: Words, w: Words, a: &[u8], b: &[u8]) {
+    let mut copy = room();
+    let n = b.len();
+    if 66000 < n {
+        return replay_answers::bad();
+    }
+    splice::put(&mut copy, 0, b);
+    written(call, kind, left, w, a, &mut copy[0..n]);
+}
+
+// Makes a call, and says what it answers. kind is its type of answer: a an action, b yes or no, c a count, e an entity ID, f a type field,
+// k a test, l a length, m a second name, n a number, q a request, r a response, s a span, t a standard type, u a TLV with the buffer, v a TLV,
+// w what was written, with the buffer, x bytes, y and z the sameness of two; any other is no case.
+// left are the words before the source a, w all words; b is the buffer, or the second source.
+pub fn say(call: usize, kind: u8, left: Words, w: Words, a: &[u8], b: &[u8]) {
+    match kind {
+        b'u' | b'w' => of_buffer(call, kind, left, w, a, b),
+        b'y' => replay_answers::same(sames::equal(call, w, a, b)),
+        b'z' => replay_answers::sameness(sames::sameness(call, left, w, a, b)),
+        _ => of_source(call, kind, w, a),
+    }
+}
