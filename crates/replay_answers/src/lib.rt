@@ -1,5 +1,6 @@
 // Says what the library's calls answer, on standard output: one function for each type of answer. A refusal is said by its number and values.
 // The text of the answers stands in forms, the notation for bytes in notation. Part of the program replay, which has the format of a case.
+// What is written is not stated: a function here answers nothing and changes nothing that is lent.
 mod forms;
 mod notation;
 
@@ -24,33 +25,48 @@ use tlv::Tlv;
 use tlv::TlvRead;
 use tlv::TlvType;
 use tlv::TlvTypeField;
+ghost use mathlib.Core.Path.{_≡_};
 
 // A line as it is, what stands between it and its answer, its end, the answer where it is no case, and the word for a long input.
-pub fn line(s: &[u8]) {
+pub fn line(s: &[u8])
+    ensures { λ r. ⌜ r ≡ tt ⌝ }
+{
     io::write_all(libc::STDOUT_FILENO, s);
 }
 
-pub fn equals_sign() {
+pub fn equals_sign()
+    ensures { λ r. ⌜ r ≡ tt ⌝ }
+{
     forms::say(forms::EQUALS_SIGN, 0, 0);
 }
 
-pub fn line_end() {
+pub fn line_end()
+    ensures { λ r. ⌜ r ≡ tt ⌝ }
+{
     forms::say(forms::LINE_END, 0, 0);
 }
 
-pub fn too_long() {
+pub fn too_long()
+    ensures { λ r. ⌜ r ≡ tt ⌝ }
+{
     forms::say(forms::TOO_LONG, 0, 0);
 }
 
-pub fn bad() {
+pub fn bad()
+    ensures { λ r. ⌜ r ≡ tt ⌝ }
+{
     forms::say(forms::BAD_CASE, 0, 0);
 }
 
-pub fn count(x: usize) {
+pub fn count(x: usize)
+    ensures { λ r. ⌜ r ≡ tt ⌝ }
+{
     forms::say(forms::COUNT, x, 0);
 }
 
-pub fn truth(x: bool) {
+pub fn truth(x: bool)
+    ensures { λ r. ⌜ r ≡ tt ⌝ }
+{
     if x {
         forms::say(forms::TRUE, 0, 0);
     } else {
@@ -58,7 +74,9 @@ pub fn truth(x: bool) {
     }
 }
 
-pub fn same(x: bool) {
+pub fn same(x: bool)
+    ensures { λ r. ⌜ r ≡ tt ⌝ }
+{
     if x {
         forms::say(forms::SAME, 0, 0);
     } else {
@@ -76,21 +94,27 @@ fn refused(r: Refusal) {
     }
 }
 
-pub fn checked(x: Checked) {
+pub fn checked(x: Checked)
+    ensures { λ r. ⌜ r ≡ tt ⌝ }
+{
     match x {
         Checked::Fine => forms::say(forms::FINE, 0, 0),
         Checked::Refused(r) => refused(r),
     }
 }
 
-pub fn length(x: Length) {
+pub fn length(x: Length)
+    ensures { λ r. ⌜ r ≡ tt ⌝ }
+{
     match x {
         Length::Len(n) => forms::say(forms::LENGTH, n, 0),
         Length::Refused(r) => refused(r),
     }
 }
 
-pub fn sameness(x: Sameness) {
+pub fn sameness(x: Sameness)
+    ensures { λ r. ⌜ r ≡ tt ⌝ }
+{
     match x {
         Sameness::Same => same(true),
         Sameness::Different => same(false),
@@ -98,7 +122,9 @@ pub fn sameness(x: Sameness) {
     }
 }
 
-pub fn number(x: Number) {
+pub fn number(x: Number)
+    ensures { λ r. ⌜ r ≡ tt ⌝ }
+{
     match x {
         Number::Is(n) => forms::say(forms::NUMBER, n as usize, 0),
         Number::Refused(r) => refused(r),
@@ -109,7 +135,9 @@ fn span(l: Lv) {
     forms::say(forms::SPAN, l.start, l.len);
 }
 
-pub fn lv(x: LvRead) {
+pub fn lv(x: LvRead)
+    ensures { λ r. ⌜ r ≡ tt ⌝ }
+{
     match x {
         LvRead::Read(l) => span(l),
         LvRead::Refused(r) => refused(r),
@@ -120,14 +148,18 @@ fn tlv_type(t: TlvType) {
     forms::say(forms::STANDARD, t.to_byte() as usize, 0);
 }
 
-pub fn field(f: TlvTypeField) {
+pub fn field(f: TlvTypeField)
+    ensures { λ r. ⌜ r ≡ tt ⌝ }
+{
     match f {
         TlvTypeField::Standard(t) => tlv_type(t),
         TlvTypeField::Custom(n) => forms::say(forms::CUSTOM, n as usize, 0),
     }
 }
 
-pub fn standard(x: StandardType) {
+pub fn standard(x: StandardType)
+    ensures { λ r. ⌜ r ≡ tt ⌝ }
+{
     match x {
         StandardType::There(t) => tlv_type(t),
         StandardType::Absent => forms::say(forms::ABSENT, 0, 0),
@@ -141,7 +173,9 @@ fn tlv_of(t: Tlv) {
     span(t.lv);
 }
 
-pub fn tlv(x: TlvRead) {
+pub fn tlv(x: TlvRead)
+    ensures { λ r. ⌜ r ≡ tt ⌝ }
+{
     match x {
         TlvRead::Read(t) => tlv_of(t),
         TlvRead::Refused(r) => refused(r),
@@ -152,7 +186,9 @@ fn action_code(a: FilestoreActionCode) {
     forms::say(forms::ACTION, a.to_code() as usize, 0);
 }
 
-pub fn action(x: ActionCodeRead) {
+pub fn action(x: ActionCodeRead)
+    ensures { λ r. ⌜ r ≡ tt ⌝ }
+{
     match x {
         ActionCodeRead::Read(a) => action_code(a),
         ActionCodeRead::Refused(r) => refused(r),
@@ -163,14 +199,18 @@ fn entity_id(x: UnsignedByteField) {
     forms::say(forms::ENTITY, x.width, x.value as usize);
 }
 
-pub fn entity(x: EntityIdRead) {
+pub fn entity(x: EntityIdRead)
+    ensures { λ r. ⌜ r ≡ tt ⌝ }
+{
     match x {
         EntityIdRead::Read(e) => entity_id(e.entity_id),
         EntityIdRead::Refused(r) => refused(r),
     }
 }
 
-pub fn second(x: SecondName) {
+pub fn second(x: SecondName)
+    ensures { λ r. ⌜ r ≡ tt ⌝ }
+{
     match x {
         SecondName::There(l) => forms::say(forms::SECOND, l.start, l.len),
         SecondName::Absent => forms::say(forms::NO_SECOND, 0, 0),
@@ -184,7 +224,9 @@ fn names(first_name: Lv, second_name: SecondName) {
     second(second_name);
 }
 
-pub fn request(x: FilestoreRequestRead) {
+pub fn request(x: FilestoreRequestRead)
+    ensures { λ r. ⌜ r ≡ tt ⌝ }
+{
     match x {
         FilestoreRequestRead::Read(q) => {
             let a = q.action_code;
@@ -196,7 +238,9 @@ pub fn request(x: FilestoreRequestRead) {
     }
 }
 
-pub fn response(x: FilestoreResponseRead) {
+pub fn response(x: FilestoreResponseRead)
+    ensures { λ r. ⌜ r ≡ tt ⌝ }
+{
     match x {
         FilestoreResponseRead::Read(q) => {
             let a = q.action_code;
@@ -215,7 +259,9 @@ pub fn response(x: FilestoreResponseRead) {
 }
 
 // Bytes, in the notation of the cases.
-pub fn bytes(s: &[u8]) {
+pub fn bytes(s: &[u8])
+    ensures { λ r. ⌜ r ≡ tt ⌝ }
+{
     notation::say(s);
 }
 
@@ -225,7 +271,9 @@ fn buffer(buf: &[u8]) {
     notation::say(buf);
 }
 
-pub fn written(x: Written, buf: &[u8]) {
+pub fn written(x: Written, buf: &[u8])
+    ensures { λ r. ⌜ r ≡ tt ⌝ }
+{
     match x {
         Written::Bytes(n) => forms::say(forms::WROTE, n, 0),
         Written::Refused(r) => refused(r),
@@ -233,7 +281,9 @@ pub fn written(x: Written, buf: &[u8]) {
     buffer(buf);
 }
 
-pub fn tlv_written(x: TlvRead, buf: &[u8]) {
+pub fn tlv_written(x: TlvRead, buf: &[u8])
+    ensures { λ r. ⌜ r ≡ tt ⌝ }
+{
     tlv(x);
     buffer(buf);
 }

@@ -34,7 +34,7 @@ fn say_run(x: u8, count: usize, before: usize) {
 }
 
 // Says bytes in the one form that is given back: a run of 5 or more equal bytes is a piece of its own, the others stand as pairs.
-pub fn say(s: &[u8]) {
+pub(crate) fn say(s: &[u8]) {
     forms::say(forms::BYTES, 0, 0);
     let mut before: usize = 0;
     let mut i: usize = 0;

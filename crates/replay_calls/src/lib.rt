@@ -84,7 +84,9 @@ fn of_buffer(call: usize, kind: u8, left: Words, w: Words, a: &[u8], b: &[u8]) {
 // k a test, l a length, m a second name, n a number, q a request, r a response, s a span, t a standard type, u a TLV with the buffer, v a TLV,
 // w what was written, with the buffer, x bytes, y and z the sameness of two; any other is no case.
 // left are the words before the source a, w all words; b is the buffer, or the second source.
-pub fn say(call: usize, kind: u8, left: Words, w: Words, a: &[u8], b: &[u8]) {
+pub fn say(call: usize, kind: u8, left: Words, w: Words, a: &[u8], b: &[u8])
+    ensures { λ r. ⌜ r ≡ tt ⌝ }
+{
     match kind {
         b'u' | b'w' => of_buffer(call, kind, left, w, a, b),
         b'y' => replay_answers::same(sames::equal(call, w, a, b)),

@@ -7,7 +7,7 @@ use filestore_base::SecondName;
 use tlv::StandardType;
 use tlv::TlvTypeField;
 
-pub fn truth(call: usize, w: Words) -> bool {
+pub(crate) fn truth(call: usize, w: Words) -> bool {
     let v = values::of(w);
     let a = values::action(w.n9);
     match call {
@@ -22,7 +22,7 @@ pub fn truth(call: usize, w: Words) -> bool {
     }
 }
 
-pub fn count(call: usize, w: Words) -> usize {
+pub(crate) fn count(call: usize, w: Words) -> usize {
     let v = values::of(w);
     let x = w.n9;
     match call {
@@ -35,7 +35,7 @@ pub fn count(call: usize, w: Words) -> usize {
     }
 }
 
-pub fn field(call: usize, w: Words) -> TlvTypeField {
+pub(crate) fn field(call: usize, w: Words) -> TlvTypeField {
     let v = values::of(w);
     match call {
         names::TYPE_FROM_BYTE => TlvTypeField::from_byte(values::octet(w.n9)),
@@ -46,7 +46,7 @@ pub fn field(call: usize, w: Words) -> TlvTypeField {
     }
 }
 
-pub fn standard(call: usize, w: Words) -> StandardType {
+pub(crate) fn standard(call: usize, w: Words) -> StandardType {
     let v = values::of(w);
     match call {
         names::TLV_TLV_TYPE => v.tlv.tlv_type(),
@@ -56,7 +56,7 @@ pub fn standard(call: usize, w: Words) -> StandardType {
     }
 }
 
-pub fn second(call: usize, w: Words) -> SecondName {
+pub(crate) fn second(call: usize, w: Words) -> SecondName {
     let v = values::of(w);
     match call {
         names::REQUEST_SECOND_NAME => v.request.second_name(),

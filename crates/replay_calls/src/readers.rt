@@ -13,7 +13,7 @@ use refusal::Length;
 use tlv::Tlv;
 use tlv::TlvRead;
 
-pub fn part(call: usize, w: Words, a: &[u8]) -> &[u8] {
+pub(crate) fn part(call: usize, w: Words, a: &[u8]) -> &[u8] {
     let v = values::of(w);
     match call {
         names::LV_VALUE => v.lv.value(a),
@@ -22,7 +22,7 @@ pub fn part(call: usize, w: Words, a: &[u8]) -> &[u8] {
     }
 }
 
-pub fn test(call: usize, w: Words, a: &[u8]) -> Checked {
+pub(crate) fn test(call: usize, w: Words, a: &[u8]) -> Checked {
     let v = values::of(w);
     match call {
         names::LV_SIZE_TEST => v.lv.size_test(),
@@ -34,7 +34,7 @@ pub fn test(call: usize, w: Words, a: &[u8]) -> Checked {
     }
 }
 
-pub fn length(call: usize, w: Words, a: &[u8]) -> Length {
+pub(crate) fn length(call: usize, w: Words, a: &[u8]) -> Length {
     let v = values::of(w);
     match call {
         names::LV_LEN_FULL => v.lv.len_full(),
@@ -53,7 +53,7 @@ pub fn length(call: usize, w: Words, a: &[u8]) -> Length {
 }
 
 // A span that the call always gives counts as one that is read.
-pub fn lv(call: usize, w: Words, a: &[u8]) -> LvRead {
+pub(crate) fn lv(call: usize, w: Words, a: &[u8]) -> LvRead {
     let v = values::of(w);
     match call {
         names::LV_FROM_BYTES => Lv::from_bytes(a),
@@ -66,7 +66,7 @@ pub fn lv(call: usize, w: Words, a: &[u8]) -> LvRead {
     }
 }
 
-pub fn tlv(call: usize, w: Words, a: &[u8]) -> TlvRead {
+pub(crate) fn tlv(call: usize, w: Words, a: &[u8]) -> TlvRead {
     match call {
         names::TLV_FROM_BYTES => Tlv::from_bytes(a),
         names::TLV_NEW => Tlv::new(values::tlv_type(w.n7), w.n8, w.n9),
@@ -77,7 +77,7 @@ pub fn tlv(call: usize, w: Words, a: &[u8]) -> TlvRead {
     }
 }
 
-pub fn entity(call: usize, w: Words, a: &[u8]) -> EntityIdRead {
+pub(crate) fn entity(call: usize, w: Words, a: &[u8]) -> EntityIdRead {
     let v = values::of(w);
     match call {
         names::ENTITY_FROM_BYTES => EntityIdTlv::from_bytes(a),
@@ -89,7 +89,7 @@ pub fn entity(call: usize, w: Words, a: &[u8]) -> EntityIdRead {
     }
 }
 
-pub fn action(call: usize, w: Words) -> ActionCodeRead {
+pub(crate) fn action(call: usize, w: Words) -> ActionCodeRead {
     let v = values::of(w);
     match call {
         names::ACTION_FROM_CODE => FilestoreActionCode::from_code(values::octet(w.n9)),

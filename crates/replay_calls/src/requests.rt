@@ -14,7 +14,7 @@ fn built(q: FilestoreRequestTlv) -> FilestoreRequestRead {
     FilestoreRequestTlv::new(action_code, q.first_name, second_name)
 }
 
-pub fn request(call: usize, w: Words, a: &[u8]) -> FilestoreRequestRead {
+pub(crate) fn request(call: usize, w: Words, a: &[u8]) -> FilestoreRequestRead {
     let v = values::of(w);
     match call {
         names::REQUEST_FROM_BYTES => FilestoreRequestTlv::from_bytes(a),
@@ -57,7 +57,7 @@ fn without_message(w: Words) -> FilestoreResponseRead {
     )
 }
 
-pub fn response(call: usize, w: Words, a: &[u8]) -> FilestoreResponseRead {
+pub(crate) fn response(call: usize, w: Words, a: &[u8]) -> FilestoreResponseRead {
     let v = values::of(w);
     match call {
         names::RESPONSE_FROM_BYTES => FilestoreResponseTlv::from_bytes(a),

@@ -4,7 +4,7 @@ use crate::names;
 use crate::values;
 use refusal::Sameness;
 
-pub fn sameness(call: usize, left: Words, w: Words, a: &[u8], b: &[u8]) -> Sameness {
+pub(crate) fn sameness(call: usize, left: Words, w: Words, a: &[u8], b: &[u8]) -> Sameness {
     let l = values::of(left);
     let r = values::of(w);
     match call {
@@ -15,7 +15,7 @@ pub fn sameness(call: usize, left: Words, w: Words, a: &[u8], b: &[u8]) -> Samen
     }
 }
 
-pub fn equal(call: usize, w: Words, a: &[u8], b: &[u8]) -> bool {
+pub(crate) fn equal(call: usize, w: Words, a: &[u8], b: &[u8]) -> bool {
     match call {
         names::SPLICE_SAME => splice::same(a, b),
         _ => values::entity(w.n6, w.n7).same(values::entity(w.n8, w.n9)),

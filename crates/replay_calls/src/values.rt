@@ -12,11 +12,11 @@ use tlv::TlvType;
 use tlv::TlvTypeField;
 
 // A byte, a standard type, a type field and an action by their numbers.
-pub fn octet(x: usize) -> u8 {
+pub(crate) fn octet(x: usize) -> u8 {
     (x % 256) as u8
 }
 
-pub fn tlv_type(x: usize) -> TlvType {
+pub(crate) fn tlv_type(x: usize) -> TlvType {
     match x {
         0 => TlvType::FilestoreRequest,
         1 => TlvType::FilestoreResponse,
@@ -27,14 +27,14 @@ pub fn tlv_type(x: usize) -> TlvType {
     }
 }
 
-pub fn field(x: usize) -> TlvTypeField {
+pub(crate) fn field(x: usize) -> TlvTypeField {
     if x < 256 {
         return TlvTypeField::Standard(tlv_type(x));
     }
     TlvTypeField::Custom(octet(x))
 }
 
-pub fn action(x: usize) -> FilestoreActionCode {
+pub(crate) fn action(x: usize) -> FilestoreActionCode {
     match x {
         0 => FilestoreActionCode::CreateFile,
         1 => FilestoreActionCode::DeleteFile,
@@ -48,7 +48,7 @@ pub fn action(x: usize) -> FilestoreActionCode {
     }
 }
 
-pub fn second(there: usize, start: usize, len: usize) -> SecondName {
+pub(crate) fn second(there: usize, start: usize, len: usize) -> SecondName {
     if there == 1 {
         return SecondName::There(Lv { start, len });
     }
@@ -65,7 +65,7 @@ pub struct Values {
     pub response: FilestoreResponseTlv,
 }
 
-pub fn entity(width: usize, number: usize) -> EntityIdTlv {
+pub(crate) fn entity(width: usize, number: usize) -> EntityIdTlv {
     EntityIdTlv {
         entity_id: UnsignedByteField {
             width,
@@ -96,7 +96,7 @@ fn response(w: Words) -> FilestoreResponseTlv {
     }
 }
 
-pub fn of(w: Words) -> Values {
+pub(crate) fn of(w: Words) -> Values {
     let lv = span(w.n8, w.n9);
     Values {
         before: span(w.n6, w.n7),

@@ -5,7 +5,7 @@ use crate::values;
 use refusal::Written;
 
 // left are the words before the source a.
-pub fn written(call: usize, left: Words, w: Words, a: &[u8], b: &mut [u8]) -> Written {
+pub(crate) fn written(call: usize, left: Words, w: Words, a: &[u8], b: &mut [u8]) -> Written {
     let l = values::of(left);
     match call {
         names::LV_WRITE_TO_SLICE => l.lv.write_to_slice(a, b),
