@@ -8,9 +8,9 @@ use mathlib.Core.Option.{Option, some, none}
 use mathlib.Core.List.{List, [], _∷_, _++_, append-assoc, append-nil}
 use lib.ListN.{length, drop, length-append}
 use Rattle.bluebook.specs.Layouts.{Octets, secondPresent, there, lv, lvIf, tlv}
-use Rattle.refusal.specs.Answer.{Answer, gives, mapA, limitTest}
+use Rattle.refusal.specs.Answer.{Answer, gives, mapA, andThen, limitTest}
 use Rattle.refusal.specs.Reader.{Took, took, Exactly}
-use Rattle.refusal.proofs.Laws.{also-both, pick-passed, limit-passed, mapped-by}
+use Rattle.refusal.proofs.Laws.{also-both, pick-passed, limit-passed, mapped-by, mapA-mapA}
 use Rattle.refusal.proofs.Once.{refusalOf-refused, untold, one-told}
 use Rattle.refusal.proofs.Readers.{exactly-tested}
 use Rattle.splice.specs.Writing.{Wrote}
@@ -18,6 +18,7 @@ use Rattle.splice.proofs.Writing.{left-by}
 use Rattle.lv.specs.Rules.{span, partOf}
 use Rattle.lv.proofs.Laws.{spanTest-in}
 use Rattle.lv.proofs.Theorems.{selects, octets-front}
+use Rattle.tlv.proofs.Theorems.{exactly-of}
 use Rattle.action.specs.Rules.{codeOf, dueOf}
 use Rattle.action.specs.declared.FilestoreActionCode.{FilestoreActionCode}
 use Rattle.action.proofs.Laws.{code-back, code-known}
@@ -26,7 +27,7 @@ use Rattle.filestore_base.specs.Rules.{spanIf, lenOf, writeTest, writeBase, sam
 use Rattle.filestore_base.specs.declared.FilestoreTlvBase.{FilestoreTlvBase}
 use Rattle.filestore_base.proofs.Laws.{Spans, there-if, length-value, writable, write-passed}
 use Rattle.filestore_base.proofs.Theorems.{Buildable, builds, same-means}
-use Rattle.filestore_reader.specs.Rules.{takeFiled, takeStrict, foundOf, found, readBase, lowBitsTest, leftTest, statusListed, listedTest, strictTest}
+use Rattle.filestore_reader.specs.Rules.{takeValue, takeFiled, takeStrict, foundOf, found, readBase, lowBitsTest, leftTest, statusListed, listedTest, strictTest}
 use Rattle.filestore_reader.specs.Told.{toldFound}
 use Rattle.filestore_reader.specs.declared.Found.{Found}
 use Rattle.filestore_reader.specs.declared.FoundRead.{FoundRead}
@@ -230,6 +231,15 @@ pub back-ok : (b : FilestoreTlvBase) (src old new : List ℕ) (k : ℕ) → Wrot
 unfolding writeBase
 back-ok b src old new k w =
     filed-ok b src (builds b .0 (writable b src (left-by (writeTest b src) (filedTlv (meaning b src)) old new k w .passed) .built))
+
+-- ---- A WHOLE TLV is read by its value alone, refusals included, whatever stands behind it
+
+pub read-alone : (response : Bool) (v rest : List ℕ) → readBase response (tlv (kindOf response) v ++ rest) ≡ mapA found (takeValue response v)
+unfolding readBase
+read-alone response v rest =
+    ap (λ (a : Answer (Took (List ℕ))). mapA (λ t. found (t .got)) (andThen a (λ f. mapA (λ t. took t (f .rest)) (takeValue response (f .got)))))
+    (exactly-of (kindOf response) .accepts v rest tt)
+    ∙ mapA-mapA (λ (t : Took (Took Filed)). found (t .got)) (λ t. took t rest) (takeValue response v)
 
 -- ---- ONE ANSWER: of `from_bytes` and `from_bytes_strict`
 
