@@ -1,0 +1,45 @@
+-- DOCUMENT 01'S EXAMPLES P1 TO P14, AS ONE TABLE: the number of the example, the call, its bytes, and the answer.
+use mathlib.Core.Path.{_≡_}
+use Prim.Native.Nat.{ℕ}
+use mathlib.Core.List.{List, [], _∷_}
+use Rattle.refusal.specs.Answer.{Answer, gives, refuses}
+use Rattle.tlv.specs.declared.TlvTypeField.the-variants.{Standard, Custom}
+use Rattle.action.specs.declared.FilestoreActionCode.the-variants.{CreateFile, RenameFile}
+use Rattle.worked.specs.Calls.{Call, lv, tlv, entity, request, response, requestStrict, responseStrict, Part, part, absent, Said, value, typed, number, requests, responds, answerOf}
+
+pub record Row : Type 0 where
+  pub name : ℕ
+  pub call : Call
+  pub bytes : List ℕ
+  pub answer : Answer Said
+
+abbrev row : ℕ → Call → List ℕ → Answer Said → Row
+row n c bs a = record { name = n; call = c; bytes = bs; answer = a }
+
+-- what a row says: the call answers that of those bytes
+abbrev pub Holds : Row → Type 0
+Holds r = answerOf (r .call) (r .bytes) ≡ r .answer
+
+abbrev pub table : List Row
+table =
+    row 1 lv [] (refuses 1 (0 ∷ 1 ∷ []))
+    ∷ row 2 lv (0x00 ∷ []) (gives (value (part 1 0 [])))
+    ∷ row 3 lv (0x03 ∷ 0x61 ∷ 0x62 ∷ []) (refuses 1 (3 ∷ 4 ∷ []))
+    ∷ row 4 tlv (0x03 ∷ 0x00 ∷ []) (gives (typed (Custom 3) (part 2 0 [])))
+    ∷ row 5 tlv (0x05 ∷ 0x02 ∷ 0xAA ∷ []) (refuses 1 (2 ∷ 3 ∷ []))
+    ∷ row 6 entity (0x06 ∷ 0x02 ∷ 0x01 ∷ 0x02 ∷ 0xFF ∷ []) (gives (number 2 258))
+    ∷ row 7 entity (0x06 ∷ 0x03 ∷ 0x01 ∷ 0x02 ∷ 0x03 ∷ []) (refuses 5 (3 ∷ []))
+    -- rename a to b
+    ∷ row 8 request (0x00 ∷ 0x05 ∷ 0x20 ∷ 0x01 ∷ 0x61 ∷ 0x01 ∷ 0x62 ∷ []) (gives (requests RenameFile (part 4 1 (0x61 ∷ [])) (part 6 1 (0x62 ∷ []))))
+    ∷ row 9 request (0x00 ∷ 0x03 ∷ 0x20 ∷ 0x01 ∷ 0x61 ∷ []) (refuses 6 [])
+    ∷ row 10 request (0x00 ∷ 0x04 ∷ 0x20 ∷ 0x01 ∷ 0x61 ∷ 0x00 ∷ []) (gives (requests RenameFile (part 4 1 (0x61 ∷ [])) (part 6 0 [])))
+    ∷ row 11 request (0x00 ∷ 0x03 ∷ 0x90 ∷ 0x01 ∷ 0x61 ∷ []) (refuses 7 (9 ∷ []))
+    ∷ row 11 request (0x00 ∷ 0x00 ∷ []) (refuses 1 (0 ∷ 1 ∷ []))
+    -- create a, status 1, empty message
+    ∷ row 12 response (0x01 ∷ 0x04 ∷ 0x01 ∷ 0x01 ∷ 0x61 ∷ 0x00 ∷ []) (gives (responds CreateFile 1 (part 4 1 (0x61 ∷ [])) absent (part 6 0 [])))
+    ∷ row 13 response (0x01 ∷ 0x03 ∷ 0x01 ∷ 0x01 ∷ 0x61 ∷ []) (refuses 1 (0 ∷ 1 ∷ []))
+    ∷ row 14 request (0x00 ∷ 0x04 ∷ 0x00 ∷ 0x01 ∷ 0x61 ∷ 0xFF ∷ []) (gives (requests CreateFile (part 4 1 (0x61 ∷ [])) absent))
+    ∷ row 14 requestStrict (0x00 ∷ 0x04 ∷ 0x00 ∷ 0x01 ∷ 0x61 ∷ 0xFF ∷ []) (refuses 12 (1 ∷ []))
+    ∷ row 14 request (0x00 ∷ 0x03 ∷ 0x05 ∷ 0x01 ∷ 0x61 ∷ []) (gives (requests CreateFile (part 4 1 (0x61 ∷ [])) absent))
+    ∷ row 14 requestStrict (0x00 ∷ 0x03 ∷ 0x05 ∷ 0x01 ∷ 0x61 ∷ []) (refuses 11 (5 ∷ []))
+    ∷ []
