@@ -1,4 +1,4 @@
--- The calls that document 01's examples name, and what each answers of some bytes, told in one type for all of them.
+-- The calls that read, and what each answers of some bytes, in one type for all of them: the words of document 01's examples.
 use Prim.Native.Nat.{ℕ}
 use mathlib.Core.List.{List}
 use Rattle.bluebook.specs.Layouts.{Entity}
@@ -15,6 +15,8 @@ use Rattle.filestore_base.specs.declared.SecondName.the-variants.{There, Absent
 use Rattle.filestore.specs.Rules.{readRequest, strictRequest, readResponse, strictResponse}
 use Rattle.filestore.specs.declared.FilestoreRequestTlv.{FilestoreRequestTlv}
 use Rattle.filestore.specs.declared.FilestoreResponseTlv.{FilestoreResponseTlv}
+use Rattle.walk.specs.Rules.{Standing, found, ended, Summed, stepAt, summaryOf}
+use Rattle.walk.specs.declared.End.{End}
 
 -- ---- THE CALLS
 
@@ -26,6 +28,8 @@ pub data Call : Type 0 where
   response : Call  -- FilestoreResponseTlv::from_bytes
   requestStrict : Call  -- FilestoreRequestTlv::from_bytes_strict
   responseStrict : Call  -- FilestoreResponseTlv::from_bytes_strict
+  step : ℕ → Call  -- walk::step_at, at that place
+  summary : Call  -- walk::summary_of
 
 -- what a call gives where it does not refuse
 abbrev pub Given : Call → Type 0
@@ -36,17 +40,21 @@ Given request = FilestoreRequestTlv
 Given response = FilestoreResponseTlv
 Given requestStrict = FilestoreRequestTlv
 Given responseStrict = FilestoreResponseTlv
+Given (step place) = Standing
+Given summary = Summed
 
 -- The rule that its contract cites: the call answers an r of its own enum, and its contract is `told r ≡ rule call bytes`. So what the rule
 -- answers of some bytes is what the call answers of them, and nothing else.
 abbrev pub rule : (call : Call) → List ℕ → Answer (Given call)
-rule lv = readLv
-rule tlv = readTlv
-rule entity = readEntity
-rule request = readRequest
-rule response = readResponse
-rule requestStrict = strictRequest
-rule responseStrict = strictResponse
+rule lv bs = readLv bs
+rule tlv bs = readTlv bs
+rule entity bs = readEntity bs
+rule request bs = readRequest bs
+rule response bs = readResponse bs
+rule requestStrict bs = strictRequest bs
+rule responseStrict bs = strictResponse bs
+rule (step place) bs = stepAt bs place
+rule summary bs = summaryOf bs
 
 -- ---- WHAT WAS ACCEPTED
 
@@ -61,6 +69,9 @@ pub data Said : Type 0 where
   number : ℕ → ℕ → Said  -- an entity ID: its width and its number
   requests : FilestoreActionCode → Part → Part → Said  -- the action, the first and the second name
   responds : FilestoreActionCode → ℕ → Part → Part → Part → Said  -- the action, the status, the first and the second name, the message
+  stands : ℕ → ℕ → Part → ℕ → Said  -- a record: its place, its type byte, its value, and the next place
+  ends : End → Said  -- the walk: whole with its place, or cut with its place and the count of bytes behind it
+  counts : ℕ → End → Said  -- the number of records, and the end
 
 -- the part that a span selects
 abbrev pub partAt : Lv → List ℕ → Part
@@ -77,6 +88,10 @@ abbrev pub saysResponse : FilestoreResponseTlv → List ℕ → Said
 saysResponse q bs =
     responds (q .«action_code») (q .«status_code») (partAt (q .«first_name») bs) (partIf (q .«second_name») bs) (partAt (q .«filestore_message») bs)
 
+abbrev pub saysStanding : Standing → List ℕ → Said
+saysStanding (found r next) bs = stands (r .place) (r .«tlv_type») (partAt (r .value) bs) next
+saysStanding (ended e) bs = ends e
+
 -- what a call gave, with the parts that its spans select in the bytes
 abbrev pub says : (call : Call) → Given call → List ℕ → Said
 says lv l bs = value (partAt l bs)
@@ -86,6 +101,8 @@ says request q bs = saysRequest q bs
 says response q bs = saysResponse q bs
 says requestStrict q bs = saysRequest q bs
 says responseStrict q bs = saysResponse q bs
+says (step place) s bs = saysStanding s bs
+says summary s bs = counts (s .count) (s .end)
 
 -- an answer in these words: document 01's number and values where it refuses
 abbrev pub said : (call : Call) → Answer (Given call) → List ℕ → Answer Said

@@ -1,11 +1,13 @@
--- DOCUMENT 01'S EXAMPLES P1 TO P14, AS ONE TABLE: the number of the example, the call, its bytes, and the answer.
+-- DOCUMENT 01'S EXAMPLES P1 TO P15, AS ONE TABLE: the number of the example, the call, its bytes, and the answer.
 use mathlib.Core.Path.{_≡_}
 use Prim.Native.Nat.{ℕ}
 use mathlib.Core.List.{List, [], _∷_}
+use lib.ListN.{take}
 use Rattle.refusal.specs.Answer.{Answer, gives, refuses}
-use Rattle.tlv.specs.declared.TlvTypeField.the-variants.{Standard, Custom}
+use Rattle.tlv.specs.declared.TlvTypeField.the-variants.{Custom}
 use Rattle.action.specs.declared.FilestoreActionCode.the-variants.{CreateFile, RenameFile}
-use Rattle.worked.specs.Calls.{Call, lv, tlv, entity, request, response, requestStrict, responseStrict, Part, part, absent, Said, value, typed, number, requests, responds, answerOf}
+use Rattle.walk.specs.declared.End.the-variants.{Whole, Cut}
+use Rattle.worked.specs.Calls.{Call, lv, tlv, entity, request, response, requestStrict, step, summary, part, absent, Said, value, typed, number, requests, responds, stands, ends, counts, answerOf}
 
 pub record Row : Type 0 where
   pub name : ℕ
@@ -20,6 +22,11 @@ row n c bs a = record { name = n; call = c; bytes = bs; answer = a }
 abbrev pub Holds : Row → Type 0
 Holds r = answerOf (r .call) (r .bytes) ≡ r .answer
 
+-- P15's bytes: two records
+abbrev journal : List ℕ
+journal = 0x05 ∷ 0x01 ∷ 0xAA ∷ 0x06 ∷ 0x01 ∷ 0x07 ∷ []
+
+-- a part is its start, its length and its bytes
 abbrev pub table : List Row
 table =
     row 1 lv [] (refuses 1 (0 ∷ 1 ∷ []))
@@ -42,4 +49,17 @@ table =
     ∷ row 14 requestStrict (0x00 ∷ 0x04 ∷ 0x00 ∷ 0x01 ∷ 0x61 ∷ 0xFF ∷ []) (refuses 12 (1 ∷ []))
     ∷ row 14 request (0x00 ∷ 0x03 ∷ 0x05 ∷ 0x01 ∷ 0x61 ∷ []) (gives (requests CreateFile (part 4 1 (0x61 ∷ [])) absent))
     ∷ row 14 requestStrict (0x00 ∷ 0x03 ∷ 0x05 ∷ 0x01 ∷ 0x61 ∷ []) (refuses 11 (5 ∷ []))
+    -- records at 0 and 3, whole at 6
+    ∷ row 15 (step 0) journal (gives (stands 0 5 (part 2 1 (0xAA ∷ [])) 3))
+    ∷ row 15 (step 3) journal (gives (stands 3 6 (part 5 1 (0x07 ∷ [])) 6))
+    ∷ row 15 (step 6) journal (gives (ends (Whole 6)))
+    ∷ row 15 summary journal (gives (counts 2 (Whole 6)))
+    -- its first 5 bytes: one record, cut at 3 with 2 behind
+    ∷ row 15 (step 0) (take 5 journal) (gives (stands 0 5 (part 2 1 (0xAA ∷ [])) 3))
+    ∷ row 15 (step 3) (take 5 journal) (gives (ends (Cut 3 2)))
+    ∷ row 15 summary (take 5 journal) (gives (counts 1 (Cut 3 2)))
+    -- its first 3 bytes: one record, whole
+    ∷ row 15 (step 0) (take 3 journal) (gives (stands 0 5 (part 2 1 (0xAA ∷ [])) 3))
+    ∷ row 15 (step 3) (take 3 journal) (gives (ends (Whole 3)))
+    ∷ row 15 summary (take 3 journal) (gives (counts 1 (Whole 3)))
     ∷ []
