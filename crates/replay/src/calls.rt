@@ -29,5 +29,9 @@ pub fn answer(line: &[u8]) {
     if 66000 < n {
         return replay_answers::bad();
     }
-    with_source(line, args, &a[0..n]);
+    let kind = args.kind;
+    match kind {
+        b'0'..=b'9' => replay_walk::say(kind, args.w, &a[0..n]),
+        _ => with_source(line, args, &a[0..n]),
+    }
 }

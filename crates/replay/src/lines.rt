@@ -12,7 +12,7 @@ fn copied(line: &[u8]) -> bool {
 
 // Writes a line back, and its answer.
 fn answered(line: &[u8]) {
-    replay_answers::line(line);
+    replay_answers::text(line);
     if !copied(line) {
         replay_answers::equals_sign();
         calls::answer(line);

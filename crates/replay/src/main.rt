@@ -10,9 +10,11 @@
 // The list of the calls, with their arguments, is in names.
 // The answer stands behind ` = `: a refusal by its number and values, and behind every writer the whole buffer after. Empty lines and lines
 // that begin with # are copied, and what is no case answers `bad case`. The input has fewer than 131,072 bytes.
+// Three cases make many calls: `walk.listing` makes steps from 0 to the end, and says each record with its kind; `walk.prefixes` says the summary
+// and the listing of every prefix, and `walk.places` the step and the kind at every place and two past the end, on a line each.
 //
 // The modules, from the input on: lines (cuts it), calls (answers a case), names (the list of the calls), args and word (read the arguments),
-// notation (reads bytes), text. The crate replay_calls makes the calls, and replay_answers says what they answer.
+// notation (reads bytes), text. The crates replay_calls and, for the walk, replay_walk make the calls, and replay_answers says what they answer.
 mod args;
 mod calls;
 mod lines;

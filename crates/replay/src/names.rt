@@ -1,13 +1,14 @@
 // The calls by name. A call stands for its place in the list, which `replay_calls::names` has as a constant.
 // To add a call: its entry in the list behind the last one of its type, its constant there, those behind it one further on, and its arm in the
 // table of its type of answer. A new type of answer is a new letter, with an arm in `replay_calls`.
+// A call of the walk has no constant: its entry stands behind the last one, its letter is a digit, and its arm is in `replay_walk::say`.
 use crate::args::Args;
 use crate::text;
 
 // Reads a line: its name up to the first space, and its words by the letters that stand behind the name in the list.
-// The first of them, a small one, is the type of answer, as `replay_calls::say` has it. The others are the words: N a number, O a number up to
-// 255, A an action from 0 to 8, F a type field, T a standard type, M a second name, S the bytes that are the source, B those that are the
-// buffer.
+// The first of them is a small one, the type of answer, as `replay_calls::say` has it, or a digit, the call, as `replay_walk::say` has it.
+// The others are the words: N a number, O a number up to 255, A an action from 0 to 8, F a type field, T a standard type, M a second name,
+// S the bytes that are the source, B those that are the buffer.
 pub fn read(line: &[u8]) -> Args {
     read_by(
         line,
@@ -33,7 +34,9 @@ response.second_name mAONNMNN|response.filestore_message sAONNMNN|response.len_v
 response.len_full lAONNMNN|response.from_bytes rS|response.from_bytes_strict rS|\
 response.write_to_slice wAONNMNNSB|response.len_written lAONNMNN|response.tlv_type_field fAONNMNN|\
 response.tlv_type tAONNMNN|response.is_standard_tlv bAONNMNN|response.same zAONNMNNSAONNMNNB|\
-splice.put wBNS|splice.same ySB|number.read nS|number.test kNN|number.write wNNBN",
+splice.put wBNS|splice.same ySB|number.read nS|number.test kNN|number.write wNNBN|\
+walk.step_at 1SN|walk.summary_of 2S|kind.kind_at 3SN|walk.listing 4S|walk.prefixes 5S|walk.places 6S|\
+record.to_tlv 7NONN|record.value 8NONNS|record.span_test 9NONNS",
     )
 }
 

@@ -27,8 +27,8 @@ use tlv::TlvType;
 use tlv::TlvTypeField;
 ghost use mathlib.Core.Path.{_≡_};
 
-// A line as it is, what stands between it and its answer, its end, the answer where it is no case, and the word for a long input.
-pub fn line(s: &[u8])
+// Text as it is, what stands between a line and its answer, a line's end, the answer to what is no case, and the word for a long input.
+pub fn text(s: &[u8])
     ensures { λ r. ⌜ r ≡ tt ⌝ }
 {
     io::write_all(libc::STDOUT_FILENO, s);
