@@ -3,9 +3,6 @@ use borrow.Author.Needs.{needs}
 use Prim.Native.Nat.{_-_}
 use Rattle.replay_walk.proofs.listing.Statement.{statement}
 use Rattle.replay_walk.proofs.listing.Tie as tie
-use Rattle.replay_walk.proofs.listing.Reads as reads
-use Rattle.replay_walk.proofs.listing.Lts as lts
-use Rattle.replay_walk.proofs.listed.Reads as listed-reads
 
 abbrev Inv-loop : tie.InvT-loop
 Inv-loop a place₀ place = Unit
@@ -13,23 +10,18 @@ Inv-loop a place₀ place = Unit
 abbrev μ-loop : tie.MeasureT-loop
 μ-loop a place₀ place = 18446744073709551615 - place
 
--- src/lib.rt:109:5
 loop-holds : tie.Need-loop-holds Inv-loop μ-loop
 loop-holds c = search needs
 
--- src/lib.rt:110:13
 listed-requires : tie.Need-listed-requires Inv-loop μ-loop
 listed-requires c κs = search needs
 
--- src/lib.rt:112:13
 returns : tie.Need-returns Inv-loop μ-loop
 returns c = search needs
 
--- src/lib.rt:109:5
 loop-less : tie.Need-loop-less Inv-loop μ-loop
 loop-less c = search needs
 
--- src/lib.rt:109:5
 loop-again : tie.Need-loop-again Inv-loop μ-loop
 loop-again c = search needs
 

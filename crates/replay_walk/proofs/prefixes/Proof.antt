@@ -1,61 +1,45 @@
 -- The prefixes up to the last one become fewer. Assumes nothing.
 use borrow.Author.Needs.{needs}
-use Prim.Native.Nat.{_+_, _-_, _≤_}
-use lib.ListN.{length}
+use Prim.Native.Nat.{_+_, _-_}
 use Rattle.replay_walk.proofs.prefixes.Statement.{statement}
 use Rattle.replay_walk.proofs.prefixes.Tie as tie
-use Rattle.replay_walk.proofs.prefixes.Reads as reads
-use Rattle.replay_walk.proofs.prefixes.Lts as lts
-use Rattle.replay_answers.proofs.count.Reads as count-reads
-use Rattle.replay_walk.proofs.prefix.Reads as prefix-reads
 
 abbrev Inv-loop : tie.InvT-loop
-Inv-loop a n₀ n-end n = n-end ≤ length a
+Inv-loop a n₀ n-end n = Unit
 
 abbrev μ-loop : tie.MeasureT-loop
 μ-loop a n₀ n-end n = n-end + 1 - n
 
--- src/lib.rt:130:5
 count-requires : tie.Need-count-requires Inv-loop μ-loop
 count-requires c κs = search needs
 
--- src/lib.rt:131:5
 loop-holds : tie.Need-loop-holds Inv-loop μ-loop
 loop-holds c = search needs
 
--- src/lib.rt:132:16
 sub-prefix : tie.Need-sub-prefix Inv-loop μ-loop
 sub-prefix c = search needs
 
--- src/lib.rt:132:16
 part-prefix-start : tie.Need-part-prefix-start Inv-loop μ-loop
 part-prefix-start c = search needs
 
--- src/lib.rt:132:16
 part-prefix-end : tie.Need-part-prefix-end Inv-loop μ-loop
 part-prefix-end c = search needs
 
--- src/lib.rt:132:9
 prefix-requires : tie.Need-prefix-requires Inv-loop μ-loop
 prefix-requires c κs = search needs
 
--- src/lib.rt:131:9
 add-n : tie.Need-add-n Inv-loop μ-loop
 add-n c = search needs
 
--- src/lib.rt:131:5
 loop-less : tie.Need-loop-less Inv-loop μ-loop
 loop-less c = search needs
 
--- src/lib.rt:131:5
 loop-again : tie.Need-loop-again Inv-loop μ-loop
 loop-again c = search needs
 
--- src/lib.rt:129:1
 returns : tie.Need-returns Inv-loop μ-loop
 returns c = search needs
 
--- src/lib.rt:129:1
 returns-2 : tie.Need-returns-2 Inv-loop μ-loop
 returns-2 c = search needs
 
