@@ -36,7 +36,7 @@ response.write_to_slice wAONNMNNSB|response.len_written lAONNMNN|response.tlv_ty
 response.tlv_type tAONNMNN|response.is_standard_tlv bAONNMNN|response.same zAONNMNNSAONNMNNB|\
 splice.put wBNS|splice.same ySB|number.read nS|number.test kNN|number.write wNNBN|\
 walk.step_at 1SN|walk.summary_of 2S|kind.kind_at 3SN|walk.listing 4S|walk.prefixes 5S|walk.places 6S|\
-record.to_tlv 7NONN|record.value 8NONNS|record.span_test 9NONNS",
+record.to_tlv 7NONN|record.value 8NONNS|record.span_test 9NONNS|walker.first 0S",
     )
 }
 

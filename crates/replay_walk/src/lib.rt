@@ -164,13 +164,14 @@ fn record_of(w: Words) -> Record {
     }
 }
 
-// Makes a call, and says what it answers. 1 is a step at a place, 2 a summary, 3 the kind at a place; 4 is a listing, 5 a summary and a listing
-// of each prefix, 6 a step and the kind at each place; 7 to 9 are a record's to_tlv, value and span_test; any other is no case.
-// w are the words, a is the source.
+// Makes a call, and says what it answers. 0 is a walker's first step, 1 a step at a place, 2 a summary, 3 the kind at a place; 4 is a listing,
+// 5 a summary and a listing of each prefix, 6 a step and the kind at each place; 7 to 9 are a record's to_tlv, value and span_test; any other is
+// no case. w are the words, a is the source.
 pub fn say(call: u8, w: Words, a: &[u8])
     ensures { λ r. ⌜ r ≡ tt ⌝ }
 {
     match call {
+        b'0' => step(walker::first(a)),
         b'1' => step(step_at(a, w.n9)),
         b'2' => summary(summary_of(a)),
         b'3' => kind(kind_at(a, w.n9)),
