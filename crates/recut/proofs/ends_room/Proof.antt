@@ -1,0 +1,12 @@
+-- The array's length by the law of repeated numbers: counting them takes a second.
+use mathlib.Core.Path.{sym}
+use Prim.Native.Nat.{ℕ}
+use lib.ListN.{length-replicate}
+use Rattle.recut.proofs.ends_room.Statement.{statement}
+use Rattle.recut.proofs.ends_room.Tie as tie
+
+returns : tie.Need-returns
+returns c = sym (length-replicate {A = ℕ} 32768 0)
+
+pub ends-room-spec : {M : Type 1} → statement M
+ends-room-spec = tie.close (tie.spec returns)

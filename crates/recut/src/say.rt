@@ -1,0 +1,59 @@
+// What the program says.
+use crate::check;
+use crate::cuts::Totals;
+use crate::part;
+
+fn text(s: &[u8]) {
+    io::write_all(libc::STDOUT_FILENO, s);
+}
+
+// A line: a number and what it counts.
+fn line(x: usize, what: &[u8]) {
+    io::print_decimal(libc::STDOUT_FILENO, x as u64);
+    text(what);
+}
+
+pub fn bad_list(at: usize) {
+    line(at, b" bytes read: no list of records\n");
+}
+
+pub fn not_written() {
+    text(b"the journal that the library writes differs from the list\n");
+}
+
+fn difference(what: u8) {
+    match what {
+        check::NO_RECORD => text(b"a record is not listed\n"),
+        check::PLACE => text(b"the place of a record differs\n"),
+        check::TYPE => text(b"a type byte differs\n"),
+        check::SPAN => text(b"the span of a value differs\n"),
+        check::VALUE => text(b"the bytes of a value differ\n"),
+        check::NEXT => text(b"the place behind a record differs\n"),
+        check::END => text(b"the end differs\n"),
+        check::COUNT => text(b"the count of the summary differs\n"),
+        check::SUMMARY_END => text(b"the end of the summary differs\n"),
+        _ => text(b"the record is refused\n"),
+    }
+}
+
+pub fn tried(count: usize, n: usize, checksum: usize, t: Totals) {
+    let cuts = part::sum(t.whole, t.cut);
+    line(count, b" records\n");
+    line(n, b" bytes\n");
+    line(checksum, b" is their checksum\n");
+    line(cuts, b" cuts\n");
+    line(t.whole, b" ended whole\n");
+    line(t.cut, b" ended cut\n");
+    line(t.listed, b" records listed\n");
+    line(t.behind, b" bytes behind\n");
+    line(t.appended, b" records appended\n");
+    if t.what == check::NOTHING {
+        return text(b"all as written\n");
+    }
+    if t.again {
+        line(cuts, b" bytes kept, and appended to: ");
+    } else {
+        line(cuts, b" bytes kept: ");
+    }
+    difference(t.what);
+}
