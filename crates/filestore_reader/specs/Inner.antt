@@ -1,12 +1,12 @@
 -- What the functions inside answer: the same reading, of what stands in a buffer from a place on and before the place `end`.
-use Prim.Native.Nat.{ℕ, _+_, _-_, _≤_}
+use Prim.Native.Nat.{ℕ, _+_, _-_}
 use mathlib.Core.Bool.{Bool}
 use mathlib.Core.List.{List}
 use lib.ListN.{length}
 use lib.Seq.{slice}
 use lib.Dec.{ltb}
 use Rattle.bluebook.specs.Layouts.{lvIf}
-use Rattle.refusal.specs.Answer.{Answer, gives, pick, mapA, andThen}
+use Rattle.refusal.specs.Answer.{Answer, pick, mapA, andThen}
 use Rattle.lv.specs.Rules.{span, readLvAt}
 use Rattle.lv.specs.declared.Lv.{Lv}
 use Rattle.action.specs.Rules.{dueOf}

@@ -1,5 +1,6 @@
 // Says what the library's calls answer, on standard output: one function for each type of answer. A refusal is said by its number and values.
-// The text of the answers stands in forms, the notation for bytes in notation. Part of the program replay, which has the format of a case.
+// The text of the answers stands in forms, the notation for bytes in notation. Part of the program replay, which has the format of a case;
+// recut says its text and its numbers so too.
 // What is written is not stated: a function here answers nothing and changes nothing that is lent.
 mod forms;
 mod notation;

@@ -1,7 +1,7 @@
 -- `behind_first` meets its contract: what the second name's reader refuses, or the message behind it. Assumes nothing.
 use mathlib.Core.Path.{_≡_, sym, ap, _∙_}
 use native.Mathlib.Omega.{arith}
-use Prim.Native.Nat.{ℕ, _-_}
+use Prim.Native.Nat.{ℕ}
 use Rattle.action.specs.Rules.{dueOf}
 use Rattle.filestore_base.specs.Meaning.{endOf, baseOf}
 use Rattle.filestore_base.specs.declared.SecondName.the-variants.{Absent}

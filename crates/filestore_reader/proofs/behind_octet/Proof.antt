@@ -1,6 +1,5 @@
 -- `behind_octet` meets its contract: the first name, and then what stands behind it. Assumes nothing.
 use mathlib.Core.Path.{_≡_, sym, ap, _∙_}
-use Prim.Native.Nat.{_-_}
 use Rattle.refusal.specs.Answer.{Answer, andThen}
 use Rattle.lv.specs.Told.{toldLv}
 use Rattle.lv.specs.Rules.{readLvAt}

@@ -1,7 +1,6 @@
 -- `from_bytes` meets its contract: a TLV of the type, and then its value. Assumes nothing.
 use mathlib.Core.Path.{_≡_, sym, ap, _∙_}
-use Prim.Native.Nat.{ℕ, _-_}
-use lib.ListN.{length}
+use Prim.Native.Nat.{ℕ}
 use Rattle.refusal.specs.Told.{toldLength}
 use Rattle.refusal.specs.declared.Length.{Length}
 use Rattle.tlv.specs.Rules.{lenOfType}

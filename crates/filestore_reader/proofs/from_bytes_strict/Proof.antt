@@ -1,6 +1,5 @@
 -- `from_bytes_strict` meets its contract: plain reading, and then the tests of what was found. Assumes nothing.
 use mathlib.Core.Path.{_≡_, sym, ap, _∙_}
-use Prim.Native.Nat.{_-_}
 use Rattle.refusal.specs.Answer.{Answer, andThen}
 use Rattle.refusal.specs.Told.{toldChecked}
 use Rattle.refusal.proofs.Laws.{also-refused, also-passed}

@@ -1,6 +1,5 @@
 -- `listed_test` meets its contract. Assumes nothing.
 use mathlib.Core.Path.{sym}
-use Prim.Native.Nat.{_-_}
 use Rattle.filestore_reader.proofs.Laws.{listedTest-off, listedTest-last, listedTest-first}
 use Rattle.filestore_reader.proofs.listed_test.Statement.{statement}
 use Rattle.filestore_reader.proofs.listed_test.Tie as tie

@@ -1,6 +1,5 @@
 -- `low_bits_test` meets its contract. Assumes nothing.
 use mathlib.Core.Path.{sym}
-use Prim.Native.Nat.{_-_}
 use native.Mathlib.Omega.{arith}
 use Rattle.refusal.proofs.Laws.{limit-over, limit-in}
 use Rattle.filestore_reader.proofs.low_bits_test.Statement.{statement}

@@ -1,7 +1,7 @@
 -- `value_before` meets its contract: no byte, no action, or the names behind the first byte. Assumes nothing.
 use mathlib.Core.Path.{_≡_, sym, ap, _∙_}
 use native.Mathlib.Omega.{arith}
-use Prim.Native.Nat.{_-_, _%_}
+use Prim.Native.Nat.{_%_}
 use lib.ListN.{getD}
 use Rattle.refusal.specs.Answer.{Answer, andThen}
 use Rattle.action.specs.Told.{toldAction}

@@ -1,10 +1,8 @@
 -- `Found::strict_test` meets its contract: the two tests of a response, or of a request. Assumes nothing.
 use mathlib.Core.Path.{sym, ap, _∙_}
-use Prim.Native.Nat.{_-_}
 use mathlib.Core.Bool.{Bool}
 use Rattle.refusal.proofs.Laws.{also-of}
 use Rattle.action.specs.Rules.{codeOf}
-use Rattle.filestore_reader.specs.declared.Found.{Found}
 use Rattle.filestore_reader.specs.Rules.{strictTest}
 use borrow.Author.Needs.{needs}
 use Rattle.filestore_reader.proofs.Found.strict_test.Statement.{statement}

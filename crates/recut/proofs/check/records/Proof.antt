@@ -1,7 +1,6 @@
 -- Each turn takes a record of the list; what is left of the m falls. Assumes nothing.
 use borrow.Author.Needs.{needs}
 use Prim.Native.Nat.{_-_}
-use lib.ListN.{length}
 use Rattle.recut.proofs.check.records.Statement.{statement}
 use Rattle.recut.proofs.check.records.Tie as tie
 
