@@ -48,5 +48,5 @@ pub fn answer(line: &[u8]) {
     if 66000 < n {
         return bad();
     }
-    answer_word(&line[..end], &journal[..n]);
+    answer_word(&line[0..end], &journal[0..n]);
 }

@@ -25,7 +25,13 @@ fn nibble(x: u8) -> u8 {
 
 // Has the bytes from group up to n stand count times in a row. Answers how many bytes stand in buf then, or TOO_MANY.
 fn repeated(buf: &mut [u8], group: usize, n: usize, count: usize) -> usize {
-    if 65536 < n || n < group || 99999 < count {
+    if 65536 < n {
+        return TOO_MANY;
+    }
+    if n < group {
+        return TOO_MANY;
+    }
+    if 99999 < count {
         return TOO_MANY;
     }
     let size = n - group;
@@ -50,7 +56,10 @@ impl Groups {
     fn with_digit(mut self, digit: u8, buf: &mut [u8]) -> Groups {
         let n = self.n;
         let high = self.high;
-        if 15 < digit || buf.len() <= n {
+        if 15 < digit {
+            return self.bad();
+        }
+        if buf.len() <= n {
             return self.bad();
         }
         if 15 < high {
@@ -75,7 +84,10 @@ impl Groups {
     // With a decimal digit behind a star.
     fn counted(mut self, digit: u8) -> Groups {
         let count = self.count;
-        if 9 < digit || 9999 < count {
+        if 9 < digit {
+            return self.bad();
+        }
+        if 9999 < count {
             return self.bad();
         }
         self.count = count * 10 + digit as usize;

@@ -69,7 +69,7 @@ fn through(journal: &[u8], out: &mut [u8]) -> Sum {
                 if len == 0 {
                     return sum;
                 }
-                sum = sum.with(&out[..len]);
+                sum = sum.with(&out[0..len]);
                 here = at;
             }
             Filled::Refused(_) => {
@@ -88,17 +88,22 @@ fn say_number(what: &[u8], x: u64) {
 fn say_first_lines(text: &[u8]) {
     let second = lines::line_end(text, 0);
     let end = lines::line_end(text, second);
-    lines::say(&text[..end]);
+    lines::say(&text[0..end]);
 }
 
 fn say_last_line(text: &[u8]) {
+    let mut start: usize = 0;
     let mut at: usize = 0;
-    loop {
-        let end = lines::line_end(text, at);
-        if end == text.len() {
-            return lines::say(&text[at..]);
-        }
-        at = end;
+    while at < text.len() {
+        start = at;
+        at = lines::line_end(text, at);
+    }
+    lines::say(&text[start..]);
+}
+
+fn say_start(journal: &[u8], out: &mut [u8]) {
+    if let Filled::Part { len, at: _ } = fill(journal, At::Start, out) {
+        say_first_lines(&out[0..len]);
     }
 }
 
@@ -112,11 +117,9 @@ pub fn say(journal: &[u8]) {
     say_number(b"lines ", sum.lines as u64);
     say_number(b"bytes ", sum.bytes as u64);
     say_number(b"checksum ", sum.checksum);
-    if let Filled::Part { len, at: _ } = fill(journal, At::Start, &mut large) {
-        say_first_lines(&large[..len]);
-    }
+    say_start(journal, &mut large);
     let last = sum.last;
     if last <= 101 {
-        say_last_line(&small[..last]);
+        say_last_line(&small[0..last]);
     }
 }

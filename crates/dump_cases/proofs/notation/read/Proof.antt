@@ -1,0 +1,64 @@
+-- Each turn takes a byte of the text, and what is left of it falls. The buffer's length stays. Assumes nothing.
+use borrow.Author.Needs.{needs}
+use Prim.Native.Nat.{_-_}
+use mathlib.Core.Path.{_≡_}
+use lib.ListN.{length}
+use Rattle.dump_cases.proofs.notation.read.Statement.{statement}
+use Rattle.dump_cases.proofs.notation.read.Tie as tie
+
+abbrev Inv-loop : tie.InvT-loop
+Inv-loop text buf₀ groups₀ i₀ buf groups i = length buf ≡ length buf₀
+
+abbrev μ-loop : tie.MeasureT-loop
+μ-loop text buf₀ groups₀ i₀ buf groups i = length text - i
+
+loop-holds : tie.Need-loop-holds Inv-loop μ-loop
+loop-holds c = search needs
+
+shared-slice-read-with : tie.Need-shared-slice-read-with Inv-loop μ-loop
+shared-slice-read-with c = search needs
+
+with-requires : tie.Need-with-requires Inv-loop μ-loop
+with-requires c κs = search needs
+
+same-length : tie.Need-same-length Inv-loop μ-loop
+same-length c = search needs
+
+returns : tie.Need-returns Inv-loop μ-loop
+returns c = search needs
+
+add-i : tie.Need-add-i Inv-loop μ-loop
+add-i c = search needs
+
+loop-less : tie.Need-loop-less Inv-loop μ-loop
+loop-less c = search needs
+
+loop-again : tie.Need-loop-again Inv-loop μ-loop
+loop-again c = search needs
+
+with-end-requires : tie.Need-with-end-requires Inv-loop μ-loop
+with-end-requires c κs = search needs
+
+same-length-2 : tie.Need-same-length-2 Inv-loop μ-loop
+same-length-2 c = search needs
+
+returns-2 : tie.Need-returns-2 Inv-loop μ-loop
+returns-2 c = search needs
+
+pub read-spec : {M : Type 1} → statement M
+read-spec =
+    tie.close
+    (tie.spec
+    Inv-loop
+    μ-loop
+    loop-holds
+    shared-slice-read-with
+    with-requires
+    same-length
+    returns
+    add-i
+    loop-less
+    loop-again
+    with-end-requires
+    same-length-2
+    returns-2)
