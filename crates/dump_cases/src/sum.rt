@@ -4,8 +4,6 @@ use listing::At;
 use listing::Filled;
 use listing::fill;
 use std::num::wrapping_add_usize;
-ghost use Prim.Native.Nat.{_≤_};
-ghost use lib.ListN.{length};
 
 // The largest prime below two to the 32.
 const MODULUS: u64 = 4294967291;
