@@ -3,7 +3,7 @@ use borrow.Author.Needs.{needs}
 use mathlib.Core.Path.{_≡_}
 use lib.ListN.{length}
 use Rattle.listing.proofs.Laws.{left}
-use Rattle.dump_io.proofs.Laws.{Moved, fill-part}
+use Rattle.listing.proofs.Parts.{Moved, fill-part}
 use native.Mathlib.Omega.{arith}
 use Rattle.dump_cases.proofs.sum.through.Statement.{statement}
 use Rattle.dump_cases.proofs.sum.through.Tie as tie
