@@ -1,6 +1,6 @@
 -- A part that `fill` answers lies in its buffer. Assumes nothing.
 use borrow.Author.Needs.{needs}
-use Rattle.listing.proofs.Parts.{Moved, fill-part}
+use Rattle.listing.proofs.Parts.{fill-part}
 use native.Mathlib.Omega.{arith}
 use Rattle.dump_cases.proofs.sum.say_start.Statement.{statement}
 use Rattle.dump_cases.proofs.sum.say_start.Tie as tie
