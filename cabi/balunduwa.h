@@ -1,0 +1,167 @@
+/* Balunduwa for C: the codec and the walk of a CFDP journal, as a static library for x86-64.
+ *
+ * Every function is proved, in crates/cabi, to answer what document 01 says for all arguments; this header and the compiler that
+ * reads it are not part of that proof.
+ *
+ * An answer is a struct by value. It begins with a refusal: number 0 where there is none, else document 01's number from 1 to 15, with
+ * the refusal's values in its order and 0 for each value that it does not carry. Behind it stands what the call gives, which is 0
+ * throughout where the call refuses. A call that refuses changes no byte of a buffer.
+ *
+ * Bytes are lent as a pointer and a length. The pointer is never NULL, also where the length is 0. What is written to (buf) does not
+ * overlap what is read from (src). A span is a part of the bytes that it was read from, or of the src that it is written from. */
+#ifndef BALUNDUWA_H
+#define BALUNDUWA_H
+
+#include <stddef.h>
+#include <stdint.h>
+
+#ifdef __cplusplus
+extern "C" {
+#endif
+
+/* The longest journal that is walked. */
+#define BALUNDUWA_LIMIT 65536
+
+typedef struct {
+    size_t number;
+    size_t first;
+    size_t second;
+} balunduwa_refusal;
+
+typedef struct {
+    size_t start;
+    size_t len;
+} balunduwa_span;
+
+/* What a writer answers: how many bytes it wrote. To learn how many are needed, write to 0 bytes: refusal 2 carries 0 and their number. */
+typedef struct {
+    balunduwa_refusal refusal;
+    size_t bytes;
+} balunduwa_written;
+
+/* ---- LV (CFDP 5.1.8) */
+
+typedef struct {
+    balunduwa_refusal refusal;
+    balunduwa_span value;
+} balunduwa_lv_answer;
+
+/* The LV at the front of buf: 1. */
+balunduwa_lv_answer balunduwa_lv_read(const uint8_t *buf, size_t buf_len);
+
+/* Writes an LV to the front of buf: 4, 15, 2. */
+balunduwa_written balunduwa_lv_write(balunduwa_span value, const uint8_t *src, size_t src_len, uint8_t *buf, size_t buf_len);
+
+/* ---- TLV (CFDP 5.1.9) */
+
+typedef struct {
+    balunduwa_refusal refusal;
+    uint8_t tlv_type;
+    balunduwa_span value;
+} balunduwa_tlv_answer;
+
+/* The TLV at the front of buf, of any type: 1. */
+balunduwa_tlv_answer balunduwa_tlv_read(const uint8_t *buf, size_t buf_len);
+
+/* Writes a TLV to the front of buf: 4, 15, 2. */
+balunduwa_written balunduwa_tlv_write(uint8_t tlv_type, balunduwa_span value, const uint8_t *src, size_t src_len, uint8_t *buf, size_t buf_len);
+
+/* ---- Entity ID: a number of 1, 2, 4 or 8 bytes */
+
+typedef struct {
+    balunduwa_refusal refusal;
+    size_t width;
+    uint64_t value;
+} balunduwa_entity_answer;
+
+/* The entity ID at the front of buf: 2, 3, 5, 1. */
+balunduwa_entity_answer balunduwa_entity_read(const uint8_t *buf, size_t buf_len);
+
+/* Writes an entity ID to the front of buf: 5, 10, 2. */
+balunduwa_written balunduwa_entity_write(size_t width, uint64_t value, uint8_t *buf, size_t buf_len);
+
+/* ---- Filestore request and response. The second name is there where has_second is not 0; its span is 0 and 0 where it was read as absent. */
+
+typedef struct {
+    uint8_t action;
+    uint8_t has_second;
+    balunduwa_span first_name;
+    balunduwa_span second_name;
+} balunduwa_request;
+
+typedef struct {
+    balunduwa_refusal refusal;
+    balunduwa_request request;
+} balunduwa_request_answer;
+
+typedef struct {
+    uint8_t action;
+    uint8_t status;
+    uint8_t has_second;
+    balunduwa_span first_name;
+    balunduwa_span second_name;
+    balunduwa_span filestore_message;
+} balunduwa_response;
+
+typedef struct {
+    balunduwa_refusal refusal;
+    balunduwa_response response;
+} balunduwa_response_answer;
+
+/* The request or response at the front of buf: 1, 3, 1, then 7, 1 or 6. Strict, after those: 11 (requests), 12, 13 (responses). */
+balunduwa_request_answer balunduwa_request_read(const uint8_t *buf, size_t buf_len);
+balunduwa_request_answer balunduwa_request_read_strict(const uint8_t *buf, size_t buf_len);
+balunduwa_response_answer balunduwa_response_read(const uint8_t *buf, size_t buf_len);
+balunduwa_response_answer balunduwa_response_read_strict(const uint8_t *buf, size_t buf_len);
+
+/* Writes a request or response to the front of buf; its names, and its message, lie in src: 7 for an action over 8; then 4, 6 or 8, 9
+ * (responses), 5, 15, 2. */
+balunduwa_written balunduwa_request_write(balunduwa_request request, const uint8_t *src, size_t src_len, uint8_t *buf, size_t buf_len);
+balunduwa_written balunduwa_response_write(balunduwa_response response, const uint8_t *src, size_t src_len, uint8_t *buf, size_t buf_len);
+
+/* ---- The walk over a journal */
+
+/* What stands at a place: a record, the whole end, or the cut end. */
+enum { BALUNDUWA_RECORD = 0, BALUNDUWA_WHOLE = 1, BALUNDUWA_CUT = 2 };
+
+/* The place is the record's, or the end's. Of a record: its type byte, its value and the place behind it. Of a cut end: the count of bytes
+ * behind the place. */
+typedef struct {
+    balunduwa_refusal refusal;
+    uint8_t what;
+    uint8_t tlv_type;
+    size_t place;
+    balunduwa_span value;
+    size_t next;
+    size_t behind;
+} balunduwa_step;
+
+/* What stands at a place of the journal: 14, 15. */
+balunduwa_step balunduwa_walk_step(const uint8_t *buf, size_t buf_len, size_t place);
+
+/* How many records the walk lists, and where it ends: whole where 0 bytes stand behind the place, else cut. */
+typedef struct {
+    balunduwa_refusal refusal;
+    size_t count;
+    size_t place;
+    size_t behind;
+} balunduwa_summary;
+
+/* The summary of the journal: 14. */
+balunduwa_summary balunduwa_walk_summary(const uint8_t *buf, size_t buf_len);
+
+enum { BALUNDUWA_REQUEST = 0, BALUNDUWA_RESPONSE = 1, BALUNDUWA_ENTITY = 2, BALUNDUWA_OTHER = 3 };
+
+typedef struct {
+    balunduwa_refusal refusal;
+    uint8_t kind;
+} balunduwa_kind;
+
+/* What the plain reader of its type says of what stands at a place of the journal: 14, 15, or that reader's refusal. */
+balunduwa_kind balunduwa_kind_at(const uint8_t *buf, size_t buf_len, size_t place);
+
+#ifdef __cplusplus
+}
+#endif
+
+#endif
