@@ -22,7 +22,7 @@ pub struct Case {
 pub fn calls() -> &'static HashMap<&'static str, &'static str> {
     static CALLS: OnceLock<HashMap<&str, &str>> = OnceLock::new();
     CALLS.get_or_init(|| {
-        let source = include_str!("../../../crates/replay/src/names.rt");
+        let source = include_str!("../../../crates/replay_lines/src/names.rt");
         let list = source.split("b\"").nth(1).and_then(|s| s.split('"').next());
         let list: &'static str = list.expect("the list of the calls").replace("\\\n", "").leak();
         list.split('|').filter_map(|entry| entry.split_once(' ')).map(|(name, letters)| (name, &letters[1..])).collect()

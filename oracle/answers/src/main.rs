@@ -1,12 +1,15 @@
 //! Holds the proved program replay against the Rust, case by case:
 //! - `answers answer`: cases on standard input, the Rust's answers on standard output;
-//! - `answers compare PROGRAM SECONDS SEED`: PROGRAM, which is replay, against the Rust.
+//! - `answers compare PROGRAM SECONDS SEED`: PROGRAM, which is replay, against the Rust;
+//! - `answers record FOLDER [--check]`: the cases of FOLDER, which is crates/recorded, and the Rust's answers to them, written anew or only held
+//!   against what is there.
 mod built;
 mod case;
 mod compare;
 mod domain;
 mod generate;
 mod notation;
+mod record;
 mod rows;
 mod rules;
 mod rust;
@@ -80,14 +83,15 @@ fn compare(program: &str, seconds: &str, seed: &str) -> Result<bool, String> {
 }
 
 fn main() -> ExitCode {
-    // A panic of the Rust is an answer; it needs no word on standard error.
-    std::panic::set_hook(Box::new(|_| {}));
+    rust::silence();
     let args: Vec<String> = std::env::args().skip(1).collect();
     let args: Vec<&str> = args.iter().map(String::as_str).collect();
     let result = match args[..] {
         ["answer"] => answer(),
         ["compare", program, seconds, seed] => compare(program, seconds, seed),
-        _ => Err("usage: answers answer | compare PROGRAM SECONDS SEED".into()),
+        ["record", folder] => record::run(folder, false),
+        ["record", folder, "--check"] => record::run(folder, true),
+        _ => Err("usage: answers answer | compare PROGRAM SECONDS SEED | record FOLDER [--check]".into()),
     };
     match result {
         Ok(true) => ExitCode::SUCCESS,

@@ -78,13 +78,6 @@ impl Field {
             Field::Standard(x) | Field::Custom(x) => x,
         }
     }
-
-    pub fn say(self) -> String {
-        match self {
-            Field::Standard(x) => format!("s{x}"),
-            Field::Custom(x) => format!("c{x}"),
-        }
-    }
 }
 
 pub fn field(word: &str) -> Option<Field> {

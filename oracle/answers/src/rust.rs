@@ -9,6 +9,7 @@ use spacepackets::cfdp::lv::Lv;
 use spacepackets::cfdp::tlv::{
     EntityIdTlv, FilestoreActionCode, FilestoreRequestTlv, FilestoreResponseTlv, GenericTlv, Tlv, TlvTypeField, fs_request_has_second_filename,
 };
+use std::cell::Cell;
 use std::panic::{AssertUnwindSafe, catch_unwind};
 
 #[derive(Clone, PartialEq, Eq, Debug)]
@@ -19,8 +20,25 @@ pub enum Answer {
     Unasked,
 }
 
+thread_local! {
+    static ASKING: Cell<bool> = const { Cell::new(false) };
+}
+
+/// A panic of the Rust is an answer and needs no word on standard error; any other is told.
+pub fn silence() {
+    let told = std::panic::take_hook();
+    std::panic::set_hook(Box::new(move |info| {
+        if !ASKING.get() {
+            told(info);
+        }
+    }));
+}
+
 pub fn answer(case: &Case) -> Answer {
-    match catch_unwind(AssertUnwindSafe(|| said(case))) {
+    ASKING.set(true);
+    let outcome = catch_unwind(AssertUnwindSafe(|| said(case)));
+    ASKING.set(false);
+    match outcome {
         Ok(Ok(text)) => Answer::Said(text),
         Ok(Err(Stop::Refused(text))) => Answer::Said(text),
         Ok(Err(Stop::Unasked)) => Answer::Unasked,

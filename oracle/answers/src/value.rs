@@ -205,7 +205,7 @@ pub enum Role {
 pub fn role(case: &Case) -> Role {
     match (case.kind(), case.method()) {
         ("lv" | "tlv" | "entity" | "request" | "response", "from_bytes") => Role::Read,
-        ("walk", "step_at" | "summary_of" | "listing") | ("kind", "kind_at") | ("walker", "first") => Role::Read,
+        ("walk", "step_at" | "summary_of" | "listing" | "prefixes") | ("kind", "kind_at") | ("walker", "first") => Role::Read,
         ("entity", "from_tlv") => Role::FromTlv,
         ("type" | "action", _) | ("response", "has_second_filename") => Role::Table,
         (_, method) if method == "new" || method.starts_with("new_") => Role::Build,

@@ -22,7 +22,7 @@ fn second(span: Option<(usize, usize)>) -> String {
     span.map_or("-".into(), |(start, len)| format!("{start}+{len}"))
 }
 
-/// The seven calls of the library and the walk that read bytes from the front, and the two that read at a place, asked for the first.
+/// The calls that read bytes: the readers, those of the walk that read from the front, and those at a place.
 const READERS: [&str; 5] = ["lv.from_bytes", "tlv.from_bytes", "entity.from_bytes", "request.from_bytes", "response.from_bytes"];
 
 const WALKS: [&str; 3] = ["walk.listing", "walk.summary_of", "walker.first"];

@@ -207,8 +207,16 @@ impl Random {
             4 | 5 => format!("lv.write_to_slice {span} {source_text} {buf}"),
             6 | 7 => format!("tlv.write_to_slice {left} {span} {source_text} {buf}"),
             8 => {
-                let (other_start, other_len) = self.span(other.len());
-                format!("tlv.same {left} {span} {source_text} {right} {other_start} {other_len} {}", x(&other))
+                // Now and then the same bytes, so that the answer is not always no.
+                let (bytes, (other_start, other_len)) = match self.one_in(2) {
+                    true => (&source, (start, len)),
+                    false => (&other, self.span(other.len())),
+                };
+                let (other_span, bytes) = (format!("{other_start} {other_len}"), x(bytes));
+                match self.one_in(2) {
+                    true => format!("lv.same {span} {source_text} {other_span} {bytes}"),
+                    false => format!("tlv.same {left} {span} {source_text} {right} {other_span} {bytes}"),
+                }
             }
             _ => format!("entity.from_tlv {} {span} {source_text}", if self.one_in(3) { left } else { "s6".into() }),
         }
