@@ -1,8 +1,8 @@
 //! Holds the proved program replay against the Rust, case by case:
 //! - `answers answer`: cases on standard input, the Rust's answers on standard output;
 //! - `answers compare PROGRAM SECONDS SEED`: PROGRAM, which is replay, against the Rust;
-//! - `answers record FOLDER [--check]`: the cases of FOLDER, which is crates/recorded, and the Rust's answers to them, written anew or only held
-//!   against what is there.
+//! - `answers record FOLDER [--check]`: the cases of recorded in FOLDER, which is crates, and the Rust's answers to them, written anew or only
+//!   held against what is there.
 mod built;
 mod case;
 mod compare;
