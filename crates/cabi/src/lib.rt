@@ -19,7 +19,6 @@ use walk::summary_of;
 ghost use mathlib.Core.Path.{_≡_};
 ghost use lib.ListN.{length};
 ghost use Rattle.lv.specs.Rules.{readLv, writeLv};
-ghost use Rattle.tlv.specs.Kinds.{fieldOf};
 ghost use Rattle.tlv.specs.Rules.{tlvOf, readTlv, writeTlv};
 ghost use Rattle.entity_id.specs.Rules.{entityOf, readEntity, writeEntity};
 ghost use Rattle.filestore.specs.Rules.{readRequest, strictRequest, readResponse, strictResponse};
@@ -151,6 +150,7 @@ pub extern "C" fn balunduwa_tlv_read(buf: &[u8]) -> TlvAnswer
     answers::tlv(Tlv::from_bytes(buf))
 }
 
+// The type byte is written as it is: a custom label has any number.
 #[no_mangle]
 pub extern "C" fn balunduwa_tlv_write(
     tlv_type: u8,
@@ -158,14 +158,14 @@ pub extern "C" fn balunduwa_tlv_write(
     src: &[u8],
     buf: &mut [u8],
 ) -> WrittenAnswer
-    ensures { λ r. ⌜ Sent (writeTlv (tlvOf (fieldOf «tlv_type») (spanIn value)) (now (src .entry)) (length (now (buf .entry)))) r (now (buf .entry)) (now (buf .exit)) ⌝ }
+    ensures { λ r. ⌜ Sent (writeTlv (tlvOf (TlvTypeField.Custom «tlv_type») (spanIn value)) (now (src .entry)) (length (now (buf .entry)))) r (now (buf .entry)) (now (buf .exit)) ⌝ }
 {
     let lv = Lv {
         start: value.start,
         len: value.len,
     };
     let tlv = Tlv {
-        tlv_type_field: TlvTypeField::from_byte(tlv_type),
+        tlv_type_field: TlvTypeField::Custom(tlv_type),
         lv,
     };
     answers::written(tlv.write_to_slice(src, buf))

@@ -1,72 +1,80 @@
--- `EntityIdTlv::write_to_slice` meets its contract: a test refuses, or type and length are stored and the number laid down behind them.
--- Assumes nothing.
-use mathlib.Core.Path.{sym, ap, _∙_}
-use native.Mathlib.Omega.{arith}
-use lib.ListN.{length, set, length-set}
-use Rattle.bluebook.specs.Layouts.{entityId}
-use Rattle.refusal.specs.Told.{toldChecked}
-use Rattle.splice.proofs.Writing.{wrote-not}
-use Rattle.entity_id.specs.Rules.{meaning}
-use Rattle.entity_id.proofs.Laws.{Writable, told-refused, told-writable, number-laid, wrote-entity}
+-- `EntityIdTlv::write_to_slice` meets its contract: each arm is the same call, on the width that it has. Assumes nothing.
+use mathlib.Core.Path.{_≡_, sym, subst}
+use Prim.Native.Nat.{ℕ}
+use mathlib.Core.List.{List}
+use lib.ListN.{length}
+use denote.Ref.{now}
+use Rattle.refusal.specs.Answer.{Answer}
+use Rattle.splice.specs.Writing.{Wrote}
+use Rattle.entity_id.specs.Rules.{entityOf, writeEntity}
 use borrow.Author.Needs.{needs}
 use Rattle.entity_id.proofs.EntityIdTlv.write_to_slice.Statement.{statement}
 use Rattle.entity_id.proofs.EntityIdTlv.write_to_slice.Tie as tie
 
-room-test-requires : tie.Need-room-test-requires
-room-test-requires c κs = search needs
+of-width : (out : ℕ → Answer (List ℕ)) {w v : ℕ} {told : Answer ℕ} {old new : List ℕ} → w ≡ v → Wrote 0 (out v) told old new → Wrote 0 (out w) told old new
+of-width out {told = told} {old = old} {new = new} e h = subst (λ (y : ℕ). Wrote 0 (out y) told old new) (sym e) h
 
-enum-known-test : tie.Need-enum-known-test
-enum-known-test c = search needs
+written-requires : tie.Need-written-requires
+written-requires c κs = search needs
 
-returns : tie.Need-returns
-returns c = wrote-not _ _ _ _ _ (told-refused _ _ _ _ (sym (ap toldChecked (c .before .test .given .1)) ∙ c .before .before .before .room-test .ensures))
+written-requires-2 : tie.Need-written-requires-2
+written-requires-2 c κs = search needs
 
-enum-told : tie.Need-enum-told
-enum-told c = search needs
+written-requires-3 : tie.Need-written-requires-3
+written-requires-3 c κs = search needs
 
--- behind the test it can be written
-fine : (c : tie.After-enum-told) → (let a = c .before .before .before .before .before .args in Writable (meaning (a .self)) (length (a .buf .now)))
-fine c = told-writable _ _ (sym (ap toldChecked (c .enum-told .given .1)) ∙ c .before .before .room-test .ensures)
+written-requires-4 : tie.Need-written-requires-4
+written-requires-4 c κs = search needs
 
-slice-write-buf : tie.Need-slice-write-buf
-slice-write-buf c = omega (arith, fine c .room)
-
-cast-buf : tie.Need-cast-buf
-cast-buf c = omega (arith, fine c .short)
-
-slice-write-buf-2 : tie.Need-slice-write-buf-2
-slice-write-buf-2 c = simp length-set (omega (arith, fine c .room))
-
-write-requires : tie.Need-write-requires
-write-requires c κs = search needs
-
-add-t7 : tie.Need-add-t7
-add-t7 c = omega (arith, fine (c .before .before .before .before) .short)
+written-requires-5 : tie.Need-written-requires-5
+written-requires-5 c κs = search needs
 
 same-length : tie.Need-same-length
-same-length c = c .before .before .write .kept .1 .1 .0 ∙ simp length-set
+same-length c = search needs
+
+returns : tie.Need-returns
+returns c = of-width (λ w. writeEntity (entityOf w (c .before .before .before .before .before .before .before .args .self .«entity_id» .value)) (length (now (c .before .before .before .before .before .before .before .args .buf)))) (c .before .before .before .before .match .keys1) (c .before .before .written .ensures)
+
+same-length-2 : tie.Need-same-length-2
+same-length-2 c = search needs
 
 returns-2 : tie.Need-returns-2
-returns-2 c =
-    let w = c .before .before in
-    let a = w .before .before .before .before .before .before .before .args in
-    let e = meaning (a .self) in
-    let h = fine (w .before .before) in
-    let d = set (set (a .buf .now) 0 entityId) 1 (e .width) in
-    wrote-entity e (a .buf .now) _ h (number-laid e d _ (h .ok) (simp length-set (h .room)) (w .write .ensures))
+returns-2 c = of-width (λ w. writeEntity (entityOf w (c .before .before .before .before .before .before .before .args .self .«entity_id» .value)) (length (now (c .before .before .before .before .before .before .before .args .buf)))) (c .before .before .before .before .match .keys2) (c .before .before .written2 .ensures)
+
+same-length-3 : tie.Need-same-length-3
+same-length-3 c = search needs
+
+returns-3 : tie.Need-returns-3
+returns-3 c = of-width (λ w. writeEntity (entityOf w (c .before .before .before .before .before .before .before .args .self .«entity_id» .value)) (length (now (c .before .before .before .before .before .before .before .args .buf)))) (c .before .before .before .before .match .keys3) (c .before .before .written3 .ensures)
+
+same-length-4 : tie.Need-same-length-4
+same-length-4 c = search needs
+
+returns-4 : tie.Need-returns-4
+returns-4 c = of-width (λ w. writeEntity (entityOf w (c .before .before .before .before .before .before .before .args .self .«entity_id» .value)) (length (now (c .before .before .before .before .before .before .before .args .buf)))) (c .before .before .before .before .match .keys4) (c .before .before .written4 .ensures)
+
+same-length-5 : tie.Need-same-length-5
+same-length-5 c = search needs
+
+returns-5 : tie.Need-returns-5
+returns-5 c = search needs
 
 pub write-to-slice-spec : {M : Type 1} → statement M
 write-to-slice-spec =
     tie.close
     (tie.spec
-    room-test-requires
-    enum-known-test
-    returns
-    enum-told
-    slice-write-buf
-    cast-buf
-    slice-write-buf-2
-    write-requires
-    add-t7
+    written-requires
+    written-requires-2
+    written-requires-3
+    written-requires-4
+    written-requires-5
     same-length
-    returns-2)
+    returns
+    same-length-2
+    returns-2
+    same-length-3
+    returns-3
+    same-length-4
+    returns-4
+    same-length-5
+    returns-5)
