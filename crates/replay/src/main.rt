@@ -7,37 +7,11 @@
 // - a second name: its span as START+LEN, or - where there is none.
 // A span is two numbers, start and length; a TLV is a type field and a span; an entity ID is its width and its number; a request is an action's
 // number, a span and a second name; a response is an action's number, a status, a span, a second name and the message's span.
-// The list of the calls, with their arguments, is in names.
+// The list of the calls, with their arguments, is in names of the crate replay_lines, which does all this.
 // The answer stands behind ` = `: a refusal by its number and values, and behind every writer the whole buffer after. Empty lines and lines
 // that begin with # are copied, and what is no case answers `bad case`. The input has fewer than 131,072 bytes.
 // Three cases make many calls: `walk.listing` makes steps from 0 to the end, and says each record with its kind; `walk.prefixes` says the summary
 // and the listing of every prefix, and `walk.places` the step and the kind at every place and two past the end, on a line each.
-//
-// The modules, from the input on: lines (cuts it), calls (answers a case), names (the list of the calls), args and word (read the arguments),
-// notation (reads bytes), text. The crates replay_calls and, for the walk, replay_walk make the calls, and replay_answers says what they answer.
-mod args;
-mod calls;
-mod lines;
-mod names;
-mod notation;
-mod text;
-mod word;
-
-ghost use mathlib.Core.Path.{_≡_};
-ghost use lib.ListN.{length};
-
-// Room for the input, all of it. The clause is what lending the array as a slice needs.
-fn input_room() -> [u8; 131072]
-    ensures { λ r. ⌜ 131072 ≡ length r ⌝ }
-{
-    [0; 131072]
-}
-
 fn main() {
-    let mut input = input_room();
-    let n = io::read_full(libc::STDIN_FILENO, &mut input);
-    lines::run(text::part(&input, 0, n));
-    if n == 131072 {
-        replay_answers::too_long();
-    }
+    replay_lines::run_input();
 }

@@ -54,7 +54,13 @@ fn of_source(call: usize, kind: u8, w: Words, a: &[u8]) {
     }
 }
 
-// Room for a buffer. The clause is what lending the array as a slice needs.
+// Room for a buffer, short or of any length. The clause is what lending the array as a slice needs.
+fn short_room() -> [u8; 512]
+    ensures { λ r. ⌜ 512 ≡ length r ⌝ }
+{
+    [0; 512]
+}
+
 fn room() -> [u8; 66000]
     ensures { λ r. ⌜ 66000 ≡ length r ⌝ }
 {
@@ -70,11 +76,21 @@ fn written(call: usize, kind: u8, left: Words, w: Words, a: &[u8], b: &mut [u8])
 }
 
 // Those that write, to a copy of the buffer b.
-fn of_buffer(call: usize, kind: u8, left: Words, w: Words, a: &[u8], b: &[u8]) {
+fn of_long_buffer(call: usize, kind: u8, left: Words, w: Words, a: &[u8], b: &[u8]) {
     let mut copy = room();
     let n = b.len();
     if 66000 < n {
         return replay_answers::bad();
+    }
+    splice::put(&mut copy, 0, b);
+    written(call, kind, left, w, a, &mut copy[0..n]);
+}
+
+fn of_buffer(call: usize, kind: u8, left: Words, w: Words, a: &[u8], b: &[u8]) {
+    let mut copy = short_room();
+    let n = b.len();
+    if 512 < n {
+        return of_long_buffer(call, kind, left, w, a, b);
     }
     splice::put(&mut copy, 0, b);
     written(call, kind, left, w, a, &mut copy[0..n]);

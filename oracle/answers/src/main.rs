@@ -1,0 +1,104 @@
+//! Holds the proved program replay against the Rust, case by case:
+//! - `answers answer`: cases on standard input, the Rust's answers on standard output;
+//! - `answers compare PROGRAM SECONDS SEED`: PROGRAM, which is replay, against the Rust;
+//! - `answers record FOLDER [--check]`: the cases of FOLDER, which is crates/recorded, and the Rust's answers to them, written anew or only held
+//!   against what is there.
+mod built;
+mod case;
+mod compare;
+mod domain;
+mod generate;
+mod notation;
+mod record;
+mod rows;
+mod rules;
+mod rust;
+mod say;
+mod value;
+mod verdict;
+mod walk;
+
+use case::Case;
+use rust::Answer;
+use std::io::{Read, Write};
+use std::process::ExitCode;
+
+/// Every line of the input, with the Rust's answer behind each case.
+fn answers(input: &str) -> String {
+    let mut text = String::new();
+    for line in input.lines() {
+        text += line;
+        if !line.is_empty() && !line.starts_with('#') {
+            text += " = ";
+            text += &match Case::read(line).map(|case| rust::answer(&case)) {
+                Some(Answer::Said(said)) => said,
+                Some(Answer::Panicked) => "panicked".into(),
+                Some(Answer::Unasked) | None => "unasked".into(),
+            };
+        }
+        text.push('\n');
+    }
+    text
+}
+
+fn answer() -> Result<bool, String> {
+    let mut input = String::new();
+    std::io::stdin().read_to_string(&mut input).map_err(|e| e.to_string())?;
+    std::io::stdout().write_all(answers(&input).as_bytes()).map_err(|e| e.to_string())?;
+    Ok(true)
+}
+
+/// A number with commas between its thousands.
+fn grouped(x: u64) -> String {
+    let digits = x.to_string();
+    let mut text = String::new();
+    for (i, c) in digits.chars().enumerate() {
+        if i > 0 && (digits.len() - i) % 3 == 0 {
+            text.push(',');
+        }
+        text.push(c);
+    }
+    text
+}
+
+fn compare(program: &str, seconds: &str, seed: &str) -> Result<bool, String> {
+    let seconds = seconds.parse().map_err(|_| format!("not a number of seconds: {seconds}"))?;
+    let seed = seed.parse().map_err(|_| format!("not a seed: {seed}"))?;
+    let started = std::time::Instant::now();
+    let (counts, fixed_done) = compare::run(program, seconds, seed)?;
+    let listed: u64 = counts.listed.values().sum();
+    let rows: Vec<String> = counts.listed.iter().map(|(row, n)| format!("row {row}: {}", grouped(*n))).collect();
+    println!("the fixed cases: {}", if fixed_done { "all" } else { "not all, for want of time" });
+    println!("not compared, since the Rust cannot be asked: {}", grouped(counts.unasked));
+    println!(
+        "SEED {seed}: {} cases compared in {} s: {} equal, {} listed differences ({}), {} unlisted",
+        grouped(counts.equal + listed + counts.wrongs),
+        started.elapsed().as_secs(),
+        grouped(counts.equal),
+        grouped(listed),
+        rows.join(", "),
+        grouped(counts.wrongs)
+    );
+    Ok(counts.wrongs == 0)
+}
+
+fn main() -> ExitCode {
+    rust::silence();
+    let args: Vec<String> = std::env::args().skip(1).collect();
+    let args: Vec<&str> = args.iter().map(String::as_str).collect();
+    let result = match args[..] {
+        ["answer"] => answer(),
+        ["compare", program, seconds, seed] => compare(program, seconds, seed),
+        ["record", folder] => record::run(folder, false),
+        ["record", folder, "--check"] => record::run(folder, true),
+        _ => Err("usage: answers answer | compare PROGRAM SECONDS SEED | record FOLDER [--check]".into()),
+    };
+    match result {
+        Ok(true) => ExitCode::SUCCESS,
+        Ok(false) => ExitCode::FAILURE,
+        Err(text) => {
+            eprintln!("oracle: {text}");
+            ExitCode::from(2)
+        }
+    }
+}

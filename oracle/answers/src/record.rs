@@ -1,0 +1,152 @@
+//! Writes the fixed list that the tests replay with no Rust at hand: cases, and the Rust's own answers to them.
+use crate::case::Case;
+use crate::generate;
+use crate::rows;
+use crate::rust::{self, Answer};
+use std::collections::{BTreeMap, HashSet};
+use std::fs;
+use std::path::Path;
+
+const SEED: u64 = 1;
+
+/// How many random cases are looked through, beside all the fixed ones.
+const RANDOM_CASES: usize = 300_000;
+
+/// The whole list stays below what a run of the proved program takes.
+const MOST_BYTES: usize = 126_000;
+
+/// A generated case that only adds to the spread is no longer.
+const SHORT: usize = 80;
+
+/// What the line that parts the cases begins with.
+const GENERATED: &str = "# Generated";
+
+fn header() -> String {
+    "# Cases with the Rust's own answers (spacepackets 0.19.0). Written by oracle/record; `oracle/record --check` tells whether it would write\n\
+     # anything else. The cases up to the line that begins with '# Generated' are chosen by hand: to add one, put it there and run oracle/record.\n"
+        .into()
+}
+
+fn generated_line() -> String {
+    format!(
+        "{GENERATED} by oracle/record, seed {SEED}: a case for each answer of each call that all fixed cases and {RANDOM_CASES} random ones met, then a spread of more"
+    )
+}
+
+/// The Rust's answer to a case, where both answers are to be equal: where the Rust is asked and docs/DIFFERENCES.md has no row.
+fn agreed(line: &str) -> Option<String> {
+    let case = Case::read(line)?;
+    match rust::answer(&case) {
+        Answer::Said(text) if rows::of(&case).is_none() => Some(text),
+        _ => None,
+    }
+}
+
+fn call(line: &str) -> &str {
+    line.split(' ').next().unwrap_or("")
+}
+
+/// What sort of answer it is: the call, and the answer without its numbers and bytes. A refusal's number stays. Of a listing only the last record
+/// and the end count, since records follow one another in any order.
+fn class(line: &str, answer: &str) -> String {
+    let mut text = call(line).to_string();
+    let from = answer.rmatch_indices("; ").nth(1).map_or(0, |(at, _)| at + 2);
+    let answer = &answer[from..];
+    let mut refused = false;
+    for word in answer.split(' ') {
+        text.push(' ');
+        text += &match word.starts_with('x') {
+            true => "x".into(),
+            false if refused => word.to_string(),
+            false => word.replace(|c: char| c.is_ascii_digit(), ""),
+        };
+        refused = word == "refused";
+    }
+    text
+}
+
+/// The hand-chosen lines of the list as it is, without its header.
+fn chosen(list: &str) -> Vec<String> {
+    let body = list.split_once("\n\n").map_or("", |(_, body)| body);
+    let mut lines: Vec<String> = body.lines().take_while(|line| !line.starts_with(GENERATED)).map(String::from).collect();
+    while lines.last().is_some_and(|line| line.is_empty()) {
+        lines.pop();
+    }
+    lines
+}
+
+fn is_case(line: &str) -> bool {
+    !line.is_empty() && !line.starts_with('#')
+}
+
+/// The generated cases: the shortest of each class, then others of each call in turn, as far as there is room.
+fn generated(mut room: usize, known: &[String]) -> Vec<String> {
+    let known: HashSet<&str> = known.iter().map(String::as_str).collect();
+    let mut classes: BTreeMap<String, String> = BTreeMap::new();
+    let mut others: BTreeMap<String, Vec<String>> = BTreeMap::new();
+    for line in generate::fixed().chain(generate::Random::new(SEED).take(RANDOM_CASES)) {
+        let Some(answer) = agreed(&line) else { continue };
+        let shortest = classes.entry(class(&line, &answer)).or_insert_with(|| line.clone());
+        if line.len() < shortest.len() {
+            shortest.clone_from(&line);
+        }
+        if line.len() < SHORT {
+            others.entry(call(&line).into()).or_default().push(line);
+        }
+    }
+    let mut taken = vec![];
+    let mut seen = HashSet::new();
+    for line in classes.values().chain(spread(&others)) {
+        if line.len() < room && !known.contains(line.as_str()) && seen.insert(line) {
+            room -= line.len() + 1;
+            taken.push(line.clone());
+        }
+    }
+    taken
+}
+
+/// From each call's cases some that lie far from one another, in turn.
+fn spread(others: &BTreeMap<String, Vec<String>>) -> impl Iterator<Item = &String> {
+    const PARTS: usize = 64;
+    (0..PARTS).flat_map(move |part| others.values().map(move |lines| &lines[(part * 2 + 1) * lines.len() / (2 * PARTS)]))
+}
+
+/// The list anew, and the answers to it, from the list as it is.
+fn renewed(list: &str) -> Result<(String, String), String> {
+    let chosen = chosen(list);
+    for line in chosen.iter().filter(|line| is_case(line)) {
+        agreed(line).ok_or(format!("the Rust does not answer this case as the library does; it belongs in crates/replay: {line}"))?;
+    }
+    let mut cases = format!("{}\n", header());
+    cases.extend(chosen.iter().map(|line| format!("{line}\n")));
+    cases += &format!("\n{}\n", generated_line());
+    let room = MOST_BYTES.checked_sub(cases.len()).ok_or("the cases that are chosen by hand leave no room")?;
+    cases.extend(generated(room, &chosen).iter().map(|line| format!("{line}\n")));
+    let mut answers = String::new();
+    for line in cases.lines() {
+        answers += line;
+        if is_case(line) {
+            answers += &format!(" = {}", agreed(line).ok_or(format!("no answer to {line}"))?);
+        }
+        answers.push('\n');
+    }
+    Ok((cases, answers))
+}
+
+/// Writes stdin and stdout of a program's folder, or only says whether they are what would be written.
+pub fn run(folder: &str, check: bool) -> Result<bool, String> {
+    let read = |name: &str| fs::read_to_string(Path::new(folder).join(name)).map_err(|e| format!("cannot read {name} of {folder}: {e}"));
+    let list = read("stdin")?;
+    let (cases, answers) = renewed(&list)?;
+    let count = cases.lines().filter(|line| is_case(line)).count();
+    if check {
+        let same = list == cases && read("stdout").is_ok_and(|old| old == answers);
+        println!("{count} cases: {}", if same { "as they are recorded" } else { "not as they are recorded" });
+        return Ok(same);
+    }
+    for (name, text) in [("stdin", cases), ("stdout", answers)] {
+        fs::write(Path::new(folder).join(name), text).map_err(|e| format!("cannot write {name} of {folder}: {e}"))?;
+    }
+    println!("{count} cases recorded");
+    Ok(true)
+}

@@ -1,0 +1,48 @@
+//! Judges a case by the two answers to it.
+use crate::case::Case;
+use crate::domain;
+use crate::rows;
+use crate::rust::{self, Answer};
+
+pub enum Verdict {
+    Equal,
+    /// The answers differ as this row of docs/DIFFERENCES.md says.
+    Listed(u8),
+    /// The Rust cannot be asked.
+    Unasked,
+    /// What is wrong, with both answers.
+    Wrong(String),
+}
+
+fn text(answer: &Answer) -> &str {
+    match answer {
+        Answer::Said(said) => said,
+        Answer::Panicked => "panicked",
+        Answer::Unasked => "unasked",
+    }
+}
+
+/// A row applies exactly where the answers differ, both are what it says, and no row is of a case on the domain.
+pub fn judge(line: &str, ours: &str) -> Verdict {
+    let Some(case) = Case::read(line) else {
+        return Verdict::Wrong(format!("{line}\n  no case"));
+    };
+    let rust = rust::answer(&case);
+    if rust == Answer::Unasked {
+        return Verdict::Unasked;
+    }
+    let wrong = |what: &str| {
+        let place = if domain::on(&case) { "on the domain" } else { "off the domain" };
+        Verdict::Wrong(format!("{line}\n  ours     {ours}\n  the Rust {}\n  {what}, {place}", text(&rust)))
+    };
+    let equal = rust == Answer::Said(ours.into());
+    match rows::of(&case) {
+        None if equal => Verdict::Equal,
+        None => wrong("a difference that no row lists"),
+        Some(row) if domain::on(&case) => wrong(&format!("row {} lists it", row.number)),
+        Some(row) if equal => wrong(&format!("equal, and row {} lists a difference", row.number)),
+        Some(row) if row.ours != ours => wrong(&format!("row {} says of ours: {}", row.number, row.ours)),
+        Some(row) if row.rust != rust => wrong(&format!("row {} says of the Rust: {}", row.number, text(&row.rust))),
+        Some(row) => Verdict::Listed(row.number),
+    }
+}
