@@ -16,6 +16,8 @@ const MOST_PRINTED: usize = 20;
 #[derive(Default)]
 pub struct Counts {
     pub equal: u64,
+    /// Those of the equal ones that are on document 01's domain.
+    pub on_domain: u64,
     pub unasked: u64,
     pub listed: BTreeMap<u8, u64>,
     pub wrong: Vec<String>,
@@ -24,11 +26,7 @@ pub struct Counts {
 
 /// The proved program's answers to cases, in their order.
 pub fn proved(program: &str, cases: &[String]) -> Result<Vec<String>, String> {
-    let mut child = Command::new(program)
-        .stdin(Stdio::piped())
-        .stdout(Stdio::piped())
-        .spawn()
-        .map_err(|e| format!("cannot start {program}: {e}"))?;
+    let mut child = Command::new(program).stdin(Stdio::piped()).stdout(Stdio::piped()).spawn().map_err(|e| format!("cannot start {program}: {e}"))?;
     let mut input = child.stdin.take().ok_or("no standard input")?;
     let text = cases.join("\n") + "\n";
     // The program reads all of its input before it answers.
@@ -63,7 +61,10 @@ fn batch(cases: &mut (dyn Iterator<Item = String> + Send)) -> Vec<String> {
 fn count(counts: &mut Counts, cases: &[String], answers: &[String]) {
     for (case, ours) in cases.iter().zip(answers) {
         match verdict::judge(case, ours) {
-            Verdict::Equal => counts.equal += 1,
+            Verdict::Equal(on_domain) => {
+                counts.equal += 1;
+                counts.on_domain += on_domain as u64;
+            }
             Verdict::Unasked => counts.unasked += 1,
             Verdict::Listed(row) => *counts.listed.entry(row).or_default() += 1,
             Verdict::Wrong(text) => {
@@ -78,6 +79,7 @@ fn count(counts: &mut Counts, cases: &[String], answers: &[String]) {
 
 fn add(all: &mut Counts, part: Counts) {
     all.equal += part.equal;
+    all.on_domain += part.on_domain;
     all.unasked += part.unasked;
     all.wrongs += part.wrongs;
     for (row, n) in part.listed {

@@ -1,8 +1,8 @@
 //! Holds the proved program replay against the Rust, case by case:
 //! - `answers answer`: cases on standard input, the Rust's answers on standard output;
 //! - `answers compare PROGRAM SECONDS SEED`: PROGRAM, which is replay, against the Rust;
-//! - `answers record FOLDER [--check]`: the cases of FOLDER, which is crates/recorded, and the Rust's answers to them, written anew or only held
-//!   against what is there.
+//! - `answers record FOLDER [--check]`: the cases of recorded in FOLDER, which is crates, and the Rust's answers to them, written anew or only
+//!   held against what is there.
 mod built;
 mod case;
 mod compare;
@@ -64,12 +64,15 @@ fn grouped(x: u64) -> String {
 fn compare(program: &str, seconds: &str, seed: &str) -> Result<bool, String> {
     let seconds = seconds.parse().map_err(|_| format!("not a number of seconds: {seconds}"))?;
     let seed = seed.parse().map_err(|_| format!("not a seed: {seed}"))?;
+    rows::consistent()?;
+    println!("SEED {seed}, {seconds} s");
     let started = std::time::Instant::now();
     let (counts, fixed_done) = compare::run(program, seconds, seed)?;
     let listed: u64 = counts.listed.values().sum();
     let rows: Vec<String> = counts.listed.iter().map(|(row, n)| format!("row {row}: {}", grouped(*n))).collect();
-    println!("the fixed cases: {}", if fixed_done { "all" } else { "not all, for want of time" });
+    println!("the cases that do not depend on the seed: {}", if fixed_done { "all" } else { "not all, for want of time" });
     println!("not compared, since the Rust cannot be asked: {}", grouped(counts.unasked));
+    println!("equal and on the domain: {}", grouped(counts.on_domain));
     println!(
         "SEED {seed}: {} cases compared in {} s: {} equal, {} listed differences ({}), {} unlisted",
         grouped(counts.equal + listed + counts.wrongs),

@@ -3,6 +3,7 @@ use crate::case::Case;
 use crate::generate;
 use crate::rows;
 use crate::rust::{self, Answer};
+use crate::verdict::{self, Verdict};
 use std::collections::{BTreeMap, HashSet};
 use std::fs;
 use std::path::Path;
@@ -28,9 +29,8 @@ fn header() -> String {
 }
 
 fn generated_line() -> String {
-    format!(
-        "{GENERATED} by oracle/record, seed {SEED}: a case for each answer of each call that all fixed cases and {RANDOM_CASES} random ones met, then a spread of more"
-    )
+    let met = format!("that all fixed cases and {RANDOM_CASES} random ones met, then a spread of more");
+    format!("{GENERATED} by oracle/record, seed {SEED}: a case for each answer of each call {met}")
 }
 
 /// The Rust's answer to a case, where both answers are to be equal: where the Rust is asked and docs/DIFFERENCES.md has no row.
@@ -133,20 +133,38 @@ fn renewed(list: &str) -> Result<(String, String), String> {
     Ok((cases, answers))
 }
 
-/// Writes stdin and stdout of a program's folder, or only says whether they are what would be written.
-pub fn run(folder: &str, check: bool) -> Result<bool, String> {
-    let read = |name: &str| fs::read_to_string(Path::new(folder).join(name)).map_err(|e| format!("cannot read {name} of {folder}: {e}"));
-    let list = read("stdin")?;
+/// Looks at the hand-made answers, those of the program replay: none is to one that the Rust answers so too, and where the Rust answers otherwise
+/// both answers are as docs/DIFFERENCES.md has them. Answers how many of them the Rust answers otherwise.
+fn hand_made(answers: &str) -> Result<usize, String> {
+    let mut listed = 0;
+    for (case, ours) in answers.lines().filter_map(|line| line.split_once(" = ")).filter(|(case, _)| Case::read(case).is_some()) {
+        match verdict::judge(case, ours) {
+            Verdict::Equal(_) => return Err(format!("the Rust answers this case of crates/replay so too; it belongs in crates/recorded: {case}")),
+            Verdict::Wrong(text) => return Err(format!("an answer of crates/replay is wrong: {text}")),
+            Verdict::Listed(_) => listed += 1,
+            Verdict::Unasked => {}
+        }
+    }
+    Ok(listed)
+}
+
+/// Writes stdin and stdout of the program recorded, in a folder of crates, or only says whether they are what would be written.
+pub fn run(crates: &str, check: bool) -> Result<bool, String> {
+    let path = |name: &str| Path::new(crates).join(name);
+    let read = |name: &str| fs::read_to_string(path(name)).map_err(|e| format!("cannot read {name} in {crates}: {e}"));
+    let listed = hand_made(&read("replay/stdout")?)?;
+    let list = read("recorded/stdin")?;
     let (cases, answers) = renewed(&list)?;
     let count = cases.lines().filter(|line| is_case(line)).count();
+    println!("crates/replay: {listed} cases that the Rust answers otherwise, as docs/DIFFERENCES.md has it");
     if check {
-        let same = list == cases && read("stdout").is_ok_and(|old| old == answers);
-        println!("{count} cases: {}", if same { "as they are recorded" } else { "not as they are recorded" });
+        let same = list == cases && read("recorded/stdout").is_ok_and(|old| old == answers);
+        println!("crates/recorded: {count} cases, {}", if same { "as they are recorded" } else { "not as they are recorded" });
         return Ok(same);
     }
-    for (name, text) in [("stdin", cases), ("stdout", answers)] {
-        fs::write(Path::new(folder).join(name), text).map_err(|e| format!("cannot write {name} of {folder}: {e}"))?;
+    for (name, text) in [("recorded/stdin", cases), ("recorded/stdout", answers)] {
+        fs::write(path(name), text).map_err(|e| format!("cannot write {name} in {crates}: {e}"))?;
     }
-    println!("{count} cases recorded");
+    println!("crates/recorded: {count} cases recorded");
     Ok(true)
 }

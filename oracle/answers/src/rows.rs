@@ -2,7 +2,7 @@
 //! values that the Rust cannot make, so there is nothing to compare; those from 21 on are of shape.
 use crate::case::Case;
 use crate::domain::short_entity;
-use crate::notation::say_bytes;
+use crate::notation::{Field, say_bytes};
 use crate::rules::{self, Refusal};
 use crate::rust::Answer;
 use crate::value::{self, Filestore, Lent, Role, Span, Value};
@@ -12,6 +12,47 @@ pub struct Row {
     pub number: u8,
     pub ours: String,
     pub rust: Answer,
+}
+
+/// The smallest input of each row, as a case.
+pub const SMALLEST: [(u8, &str); 22] = [
+    (1, "tlv.same c6 0 0 x s6 0 0 x"),
+    (3, "lv.value 1 0 x"),
+    (3, "lv.write_to_slice 1 0 x xaa"),
+    (5, "lv.write_to_slice 1 1 x61 xaaaa"),
+    (6, "entity.from_bytes x0601"),
+    (7, "entity.write_to_slice 1 0 xaaaa"),
+    (8, "entity.to_tlv 1 0 xaaaa"),
+    (9, "entity.new 1 256"),
+    (9, "entity.write_to_slice 1 256 xaaaaaa"),
+    (10, "entity.new 0 0"),
+    (10, "entity.write_to_slice 0 0 xaaaa"),
+    (11, "entity.new 3 0"),
+    (11, "entity.write_to_slice 3 0 xaaaaaaaaaa"),
+    (12, "request.new_create_file 0 254"),
+    (13, "request.new_create_file 0 255"),
+    (14, "request.new_rename_file 0 126 0 127"),
+    (15, "request.new_rename_file 0 127 0 127"),
+    (16, "response.new 0 0 0 252 - 0 1"),
+    (17, "request.new 0 0 0 0+0"),
+    (18, "request.new 0 0 255 0+0"),
+    (19, "response.new_no_filestore_message 0 16 0 0 -"),
+    (20, "response.new_no_filestore_message 0 16 0 255 -"),
+];
+
+/// Whether docs/DIFFERENCES.md has each of these rows, and its smallest input falls under it.
+pub fn consistent() -> Result<(), String> {
+    let table = include_str!("../../../docs/DIFFERENCES.md");
+    for (number, line) in SMALLEST {
+        if !table.lines().any(|row| row.starts_with(&format!("| {number} | "))) {
+            return Err(format!("docs/DIFFERENCES.md has no row {number}"));
+        }
+        let case = Case::read(line).ok_or(format!("no case: {line}"))?;
+        if of(&case).is_none_or(|row| row.number != number) {
+            return Err(format!("not of row {number}: {line}"));
+        }
+    }
+    Ok(())
 }
 
 /// The row of a case that the Rust is asked, if there is one.
@@ -58,8 +99,8 @@ fn from_tlv(case: &Case) -> Option<Row> {
     let lent = value::handed(case);
     let Value::Tlv(field, span) = lent.value else { return None };
     let ours = match field {
-        crate::notation::Field::Standard(6) if rules::legal_width(span.len) => past_end(span),
-        crate::notation::Field::Standard(6) => Refusal::new(5, &[span.len as u64]),
+        Field::Standard(6) if rules::legal_width(span.len) => past_end(span),
+        Field::Standard(6) => Refusal::new(5, &[span.len as u64]),
         _ => Refusal::new(3, &[field.byte() as u64, 6]),
     };
     stray(&lent, ours.say())
@@ -118,9 +159,11 @@ fn handled(case: &Case, lent: &Lent) -> Option<Row> {
                 (8, false) => 18,
                 (9, true) => 19,
                 (9, false) => 20,
-                (_, false) => if f.second_due() { 15 } else { 13 },
                 (_, true) if f.message.is_some() => 16,
-                (_, true) => if f.second_due() { 14 } else { 12 },
+                (_, true) if f.second_due() => 14,
+                (_, true) => 12,
+                (_, false) if f.second_due() => 15,
+                (_, false) => 13,
             };
             let rust = if names_fit { filestore(case, &f, lent.source) } else { refused(&names) };
             row(number, refused(&r), Answer::Said(rust))

@@ -1,7 +1,7 @@
 //! Answers a case by the Rust.
 use crate::built::{self, Built};
 use crate::case::Case;
-use crate::notation::say_bytes;
+use crate::notation::{Field, say_bytes};
 use crate::say::{self, Places, Stop};
 use crate::value::{self, Role, Value};
 use crate::walk;
@@ -229,8 +229,8 @@ fn table(case: &Case) -> Result<String, Stop> {
         "type.to_byte" => {
             let field = case.field(0);
             u8::from(match field {
-                crate::notation::Field::Standard(x) => TlvTypeField::Standard(built::tlv_type(x)),
-                crate::notation::Field::Custom(x) => TlvTypeField::Custom(x),
+                Field::Standard(x) => TlvTypeField::Standard(built::tlv_type(x)),
+                Field::Custom(x) => TlvTypeField::Custom(x),
             })
             .to_string()
         }

@@ -217,8 +217,7 @@ pub fn role(case: &Case) -> Role {
         ("entity", "entity_id" | "len_value" | "tlv_type_field" | "tlv_type" | "is_standard_tlv") => Role::Tell,
         (
             "request" | "response",
-            "action_code" | "status_code" | "first_name" | "second_name" | "filestore_message" | "tlv_type_field" | "tlv_type"
-            | "is_standard_tlv",
+            "action_code" | "status_code" | "first_name" | "second_name" | "filestore_message" | "tlv_type_field" | "tlv_type" | "is_standard_tlv",
         ) => Role::Tell,
         _ => Role::Added,
     }

@@ -5,7 +5,8 @@ use crate::rows;
 use crate::rust::{self, Answer};
 
 pub enum Verdict {
-    Equal,
+    /// The answers are equal; whether the case is on the domain.
+    Equal(bool),
     /// The answers differ as this row of docs/DIFFERENCES.md says.
     Listed(u8),
     /// The Rust cannot be asked.
@@ -37,7 +38,7 @@ pub fn judge(line: &str, ours: &str) -> Verdict {
     };
     let equal = rust == Answer::Said(ours.into());
     match rows::of(&case) {
-        None if equal => Verdict::Equal,
+        None if equal => Verdict::Equal(domain::on(&case)),
         None => wrong("a difference that no row lists"),
         Some(row) if domain::on(&case) => wrong(&format!("row {} lists it", row.number)),
         Some(row) if equal => wrong(&format!("equal, and row {} lists a difference", row.number)),

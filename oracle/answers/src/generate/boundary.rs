@@ -147,6 +147,31 @@ fn spans() -> Vec<String> {
     all
 }
 
+/// Every pair of some values that differ in each part that counts, one of each pair in a buffer of its own.
+fn pairs(kind: &str, values: Vec<String>) -> Vec<String> {
+    let with = |left: &String| values.iter().map(|right| format!("{kind}.same {left} x6162 {right} x6162")).collect::<Vec<_>>();
+    values.iter().flat_map(with).collect()
+}
+
+fn sames() -> Vec<String> {
+    let spans = ["0 0", "0 1", "1 1"];
+    let seconds = ["-", "0+0", "0+1", "1+1"];
+    let with = |heads: &[String], tails: &[&str]| -> Vec<String> {
+        heads.iter().flat_map(|head| tails.iter().map(move |tail| format!("{head} {tail}"))).collect()
+    };
+    let words = |list: &[&str]| -> Vec<String> { list.iter().map(|word| word.to_string()).collect() };
+    let requests = with(&with(&words(&["0", "2", "3"]), &spans), &seconds);
+    let statused = with(&words(&["0", "2"]), &["0", "1", "16"]);
+    let responses = with(&with(&with(&statused, &spans[1..]), &seconds[..3]), &spans);
+    let all = [
+        pairs("lv", words(&spans)),
+        pairs("tlv", with(&words(&["s6", "c6", "s5", "c5", "c3"]), &spans)),
+        pairs("request", requests),
+        pairs("response", responses),
+    ];
+    all.concat()
+}
+
 fn walks() -> Vec<String> {
     let mut all = vec![];
     for n in [65_534, 65_535, 65_536] {
@@ -162,6 +187,6 @@ fn walks() -> Vec<String> {
 }
 
 pub fn cases() -> impl Iterator<Item = String> + Send {
-    let parts = [lvs, entities, requests, responses, spans, walks];
+    let parts = [lvs, entities, requests, responses, spans, sames, walks];
     parts.into_iter().flat_map(|part| part())
 }

@@ -6,6 +6,7 @@ mod short;
 pub use random::Random;
 
 use crate::notation::say_bytes;
+use crate::rows;
 
 /// The bytes of an argument, in the notation.
 fn x(bytes: &[u8]) -> String {
@@ -14,7 +15,8 @@ fn x(bytes: &[u8]) -> String {
 
 /// The cases that do not depend on a seed, in their order.
 pub fn fixed() -> Box<dyn Iterator<Item = String> + Send> {
-    Box::new(boundary::cases().chain(short::cases()))
+    let smallest = rows::SMALLEST.iter().map(|(_, line)| line.to_string());
+    Box::new(smallest.chain(boundary::cases()).chain(short::cases()))
 }
 
 /// A second name.
@@ -54,6 +56,7 @@ const RESPONSE_TELLS: [&str; 11] = [
 ];
 
 /// The request builders of one action each: with one name, and with two.
-const ONE_NAME: [&str; 6] = ["new_create_file", "new_delete_file", "new_create_directory", "new_remove_directory", "new_deny_file", "new_deny_directory"];
+const ONE_NAME: [&str; 6] =
+    ["new_create_file", "new_delete_file", "new_create_directory", "new_remove_directory", "new_deny_file", "new_deny_directory"];
 
 const TWO_NAMES: [&str; 3] = ["new_rename_file", "new_append_file", "new_replace_file"];

@@ -1,0 +1,52 @@
+-- `cabi::balunduwa_request_write` meets its contract: an argument that is refused writes nothing; else the call's answer crosses. Assumes nothing.
+use mathlib.Core.Path.{sym, ap, _∙_}
+use denote.Ref.{now}
+use lib.ListN.{length}
+use Rattle.filestore_base.specs.Rules.{writeBase}
+use Rattle.filestore.specs.Rules.{requestBase}
+use Rattle.filestore.specs.Told.{toldRequest}
+use Rattle.cabi.proofs.Laws.{sent, unsent, given, ungiven}
+use borrow.Author.Needs.{needs}
+use Rattle.cabi.proofs.balunduwa_request_write.Statement.{statement}
+use Rattle.cabi.proofs.balunduwa_request_write.Tie as tie
+
+request-requires : tie.Need-request-requires
+request-requires c κs = search needs
+
+enum-known-q : tie.Need-enum-known-q
+enum-known-q c = search needs
+
+write-to-slice-requires : tie.Need-write-to-slice-requires
+write-to-slice-requires c κs = search needs
+
+written-requires : tie.Need-written-requires
+written-requires c κs = search needs
+
+enum-known-r : tie.Need-enum-known-r
+enum-known-r c = search needs
+
+written-requires-2 : tie.Need-written-requires-2
+written-requires-2 c κs = search needs
+
+same-length : tie.Need-same-length
+same-length c = search needs
+
+returns : tie.Need-returns
+returns c = sent (given (λ x. writeBase (requestBase x) (now (c .before .before .before .before .before .before .before .before .before .before .before .args .src)) (length (now (c .before .before .before .before .before .before .before .before .before .before .before .args .buf)))) (sym (ap toldRequest (c .before .before .before .before .before .before .q .given .1)) ∙ c .before .before .before .before .before .before .before .before .request .ensures)) (c .written .ensures) (c .before .before .before .write-to-slice .ensures)
+
+returns-2 : tie.Need-returns-2
+returns-2 c = unsent (ungiven (λ x. writeBase (requestBase x) (now (c .before .before .before .before .before .before .before .args .src)) (length (now (c .before .before .before .before .before .before .before .args .buf)))) (sym (ap toldRequest (c .before .before .r .given .1)) ∙ c .before .before .before .before .request .ensures)) (c .written2 .ensures)
+
+pub balunduwa-request-write-spec : {M : Type 1} → statement M
+balunduwa-request-write-spec =
+    tie.close
+    (tie.spec
+    request-requires
+    enum-known-q
+    write-to-slice-requires
+    written-requires
+    enum-known-r
+    written-requires-2
+    same-length
+    returns
+    returns-2)

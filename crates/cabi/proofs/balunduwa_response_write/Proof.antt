@@ -1,0 +1,52 @@
+-- `cabi::balunduwa_response_write` meets its contract: an argument that is refused writes nothing; else the call's answer crosses. Assumes nothing.
+use mathlib.Core.Path.{sym, ap, _∙_}
+use denote.Ref.{now}
+use lib.ListN.{length}
+use Rattle.filestore_base.specs.Rules.{writeBase}
+use Rattle.filestore.specs.Rules.{responseBase}
+use Rattle.filestore.specs.Told.{toldResponse}
+use Rattle.cabi.proofs.Laws.{sent, unsent, given, ungiven}
+use borrow.Author.Needs.{needs}
+use Rattle.cabi.proofs.balunduwa_response_write.Statement.{statement}
+use Rattle.cabi.proofs.balunduwa_response_write.Tie as tie
+
+response-requires : tie.Need-response-requires
+response-requires c κs = search needs
+
+enum-known-q : tie.Need-enum-known-q
+enum-known-q c = search needs
+
+write-to-slice-requires : tie.Need-write-to-slice-requires
+write-to-slice-requires c κs = search needs
+
+written-requires : tie.Need-written-requires
+written-requires c κs = search needs
+
+enum-known-r : tie.Need-enum-known-r
+enum-known-r c = search needs
+
+written-requires-2 : tie.Need-written-requires-2
+written-requires-2 c κs = search needs
+
+same-length : tie.Need-same-length
+same-length c = search needs
+
+returns : tie.Need-returns
+returns c = sent (given (λ x. writeBase (responseBase x) (now (c .before .before .before .before .before .before .before .before .before .before .before .args .src)) (length (now (c .before .before .before .before .before .before .before .before .before .before .before .args .buf)))) (sym (ap toldResponse (c .before .before .before .before .before .before .q .given .1)) ∙ c .before .before .before .before .before .before .before .before .response .ensures)) (c .written .ensures) (c .before .before .before .write-to-slice .ensures)
+
+returns-2 : tie.Need-returns-2
+returns-2 c = unsent (ungiven (λ x. writeBase (responseBase x) (now (c .before .before .before .before .before .before .before .args .src)) (length (now (c .before .before .before .before .before .before .before .args .buf)))) (sym (ap toldResponse (c .before .before .r .given .1)) ∙ c .before .before .before .before .response .ensures)) (c .written2 .ensures)
+
+pub balunduwa-response-write-spec : {M : Type 1} → statement M
+balunduwa-response-write-spec =
+    tie.close
+    (tie.spec
+    response-requires
+    enum-known-q
+    write-to-slice-requires
+    written-requires
+    enum-known-r
+    written-requires-2
+    same-length
+    returns
+    returns-2)

@@ -1,0 +1,253 @@
+-- What crosses the boundary to C: how an answer of document 01 is laid out in a struct, and what the library's values are of what C hands in.
+use mathlib.Core.Path.{_≡_}
+use Prim.Native.Nat.{ℕ}
+use mathlib.Core.List.{List, []}
+use lib.ListN.{length, getD}
+use lib.Dec.{eqb}
+use Rattle.bluebook.specs.Layouts.{Entity}
+use Rattle.refusal.specs.Answer.{Answer, gives, refuses, pick, mapA, andThen}
+use Rattle.splice.specs.Writing.{leaves}
+use Rattle.lv.specs.Rules.{span}
+use Rattle.lv.specs.declared.Lv.{Lv}
+use Rattle.tlv.specs.Kinds.{byteOf}
+use Rattle.tlv.specs.Rules.{tlvOf}
+use Rattle.tlv.specs.declared.Tlv.{Tlv}
+use Rattle.tlv.specs.declared.TlvTypeField.the-variants.{Custom}
+use Rattle.entity_id.specs.Rules.{entityOf}
+use Rattle.action.specs.Rules.{codeOf, actionOf}
+use Rattle.action.specs.declared.FilestoreActionCode.{FilestoreActionCode}
+use Rattle.action.specs.declared.FilestoreActionCode.the-variants.{CreateFile}
+use Rattle.filestore_base.specs.Rules.{writeBase}
+use Rattle.filestore_base.specs.declared.SecondName.{SecondName}
+use Rattle.filestore_base.specs.declared.SecondName.the-variants.{There, Absent}
+use Rattle.filestore.specs.Rules.{requestOf as aRequest, requestBase, responseOf as aResponse, responseBase}
+use Rattle.filestore.specs.declared.FilestoreRequestTlv.{FilestoreRequestTlv}
+use Rattle.filestore.specs.declared.FilestoreResponseTlv.{FilestoreResponseTlv}
+use Rattle.walk.specs.Rules.{Standing, found, ended, Summed}
+use Rattle.walk.specs.declared.End.{End}
+use Rattle.walk.specs.declared.End.the-variants.{Whole, Cut}
+use Rattle.kind.specs.Rules.{Name, request, response, entity, other}
+use Rattle.cabi.specs.declared.Numbered.{Numbered}
+use Rattle.cabi.specs.declared.Span.{Span}
+use Rattle.cabi.specs.declared.WrittenAnswer.{WrittenAnswer}
+use Rattle.cabi.specs.declared.LvAnswer.{LvAnswer}
+use Rattle.cabi.specs.declared.TlvAnswer.{TlvAnswer}
+use Rattle.cabi.specs.declared.EntityAnswer.{EntityAnswer}
+use Rattle.cabi.specs.declared.Request.{Request}
+use Rattle.cabi.specs.declared.RequestAnswer.{RequestAnswer}
+use Rattle.cabi.specs.declared.Response.{Response}
+use Rattle.cabi.specs.declared.ResponseAnswer.{ResponseAnswer}
+use Rattle.cabi.specs.declared.StepAnswer.{StepAnswer}
+use Rattle.cabi.specs.declared.SummaryAnswer.{SummaryAnswer}
+use Rattle.cabi.specs.declared.KindAnswer.{KindAnswer}
+
+-- ---- A REFUSAL: its number and its values, 0 for each that it does not carry; number 0 where nothing is refused
+
+abbrev pub numbered : ℕ → List ℕ → Numbered
+numbered n vs = record { number = n; first = getD vs 0 0; second = getD vs 1 0 }
+
+abbrev pub refusal : {A : Type 0} → Answer A → Numbered
+refusal (gives a) = numbered 0 []
+refusal (refuses n vs) = numbered n vs
+
+-- ---- ANSWERS: a struct of the refusal and of what is given, or of what is 0 throughout where nothing is
+
+-- what is given, or z where nothing is
+abbrev pub orElse : {A : Type 0} → A → Answer A → A
+orElse z (gives a) = a
+orElse z (refuses n vs) = z
+
+-- `out` makes the struct; for z it is 0 throughout
+abbrev pub crossed : {A T : Type 0} → (Numbered → A → T) → A → Answer A → T
+crossed out z a = out (refusal a) (orElse z a)
+
+-- how many bytes were written
+abbrev pub writtenOut : Numbered → ℕ → WrittenAnswer
+writtenOut n bytes = record { refusal = n; bytes = bytes }
+
+abbrev pub writtenAnswer : Answer ℕ → WrittenAnswer
+writtenAnswer = crossed writtenOut 0
+
+-- what a writer for C owes: it answers how many bytes it wrote, or its refusal, and the buffer is what that leaves
+pub record Sent (out : Answer (List ℕ)) (told : WrittenAnswer) (old new : List ℕ) : Type 0 where
+  pub answer : told ≡ writtenAnswer (mapA length out)
+  pub bytes : new ≡ leaves 0 out old
+
+-- an LV, a TLV, an entity ID
+
+abbrev pub none : Lv
+none = span 0 0
+
+abbrev pub spanOf : Lv → Span
+spanOf l = record { start = l .start; len = l .len }
+
+abbrev pub lvOut : Numbered → Lv → LvAnswer
+lvOut n l = record { refusal = n; value = spanOf l }
+
+abbrev pub lvAnswer : Answer Lv → LvAnswer
+lvAnswer = crossed lvOut none
+
+abbrev pub typed : Numbered → ℕ → Lv → TlvAnswer
+typed n kind l = record { refusal = n; «tlv_type» = kind; value = spanOf l }
+
+abbrev pub tlvOut : Numbered → Tlv → TlvAnswer
+tlvOut n t = typed n (byteOf (t .«tlv_type_field»)) (t .lv)
+
+abbrev pub noTlv : Tlv
+noTlv = tlvOf (Custom 0) none
+
+abbrev pub tlvAnswer : Answer Tlv → TlvAnswer
+tlvAnswer = crossed tlvOut noTlv
+
+abbrev pub entityOut : Numbered → Entity → EntityAnswer
+entityOut n e = record { refusal = n; width = e .width; value = e .number }
+
+abbrev pub entityAnswer : Answer Entity → EntityAnswer
+entityAnswer = crossed entityOut (entityOf 0 0)
+
+-- a request and a response: a second name is a number, 1 where it is there, and its span
+
+abbrev pub hasSecond : SecondName → ℕ
+hasSecond (There l) = 1
+hasSecond Absent = 0
+
+abbrev pub secondSpan : SecondName → Span
+secondSpan (There l) = spanOf l
+secondSpan Absent = spanOf none
+
+abbrev pub requestBy : ℕ → ℕ → Lv → Span → Request
+requestBy action has first second = record { action = action; «has_second» = has; «first_name» = spanOf first; «second_name» = second }
+
+abbrev pub requestOf : FilestoreRequestTlv → Request
+requestOf q = requestBy (codeOf (q .«action_code»)) (hasSecond (q .«second_name»)) (q .«first_name») (secondSpan (q .«second_name»))
+
+abbrev pub requested : Numbered → Request → RequestAnswer
+requested n q = record { refusal = n; request = q }
+
+abbrev pub requestOut : Numbered → FilestoreRequestTlv → RequestAnswer
+requestOut n q = requested n (requestOf q)
+
+abbrev pub noRequest : FilestoreRequestTlv
+noRequest = aRequest CreateFile none Absent
+
+abbrev pub requestAnswer : Answer FilestoreRequestTlv → RequestAnswer
+requestAnswer = crossed requestOut noRequest
+
+abbrev pub responseBy : ℕ → ℕ → ℕ → Lv → Span → Lv → Response
+responseBy action status has first second message = record {
+  action = action;
+  status = status;
+  «has_second» = has;
+  «first_name» = spanOf first;
+  «second_name» = second;
+  «filestore_message» = spanOf message;
+}
+
+abbrev pub responseOf : FilestoreResponseTlv → Response
+responseOf q =
+    responseBy (codeOf (q .«action_code»)) (q .«status_code») (hasSecond (q .«second_name»)) (q .«first_name») (secondSpan (q .«second_name»))
+    (q .«filestore_message»)
+
+abbrev pub responded : Numbered → Response → ResponseAnswer
+responded n q = record { refusal = n; response = q }
+
+abbrev pub responseOut : Numbered → FilestoreResponseTlv → ResponseAnswer
+responseOut n q = responded n (responseOf q)
+
+abbrev pub noResponse : FilestoreResponseTlv
+noResponse = aResponse CreateFile 0 none Absent none
+
+abbrev pub responseAnswer : Answer FilestoreResponseTlv → ResponseAnswer
+responseAnswer = crossed responseOut noResponse
+
+-- what stands at a place: 0 a record, 1 the whole end, 2 the cut one
+
+abbrev pub stepBy : Numbered → ℕ → ℕ → ℕ → Lv → ℕ → ℕ → StepAnswer
+stepBy n what kind place value next behind = record {
+  refusal = n;
+  what = what;
+  «tlv_type» = kind;
+  place = place;
+  value = spanOf value;
+  next = next;
+  behind = behind;
+}
+
+abbrev pub stepOut : Numbered → Standing → StepAnswer
+stepOut n (found r next) = stepBy n 0 (r .«tlv_type») (r .place) (r .value) next 0
+stepOut n (ended (Whole place)) = stepBy n 1 0 place none 0 0
+stepOut n (ended (Cut place behind)) = stepBy n 2 0 place none 0 behind
+
+abbrev pub noStep : Standing
+noStep = found (record { place = 0; «tlv_type» = 0; value = none }) 0
+
+abbrev pub stepAnswer : Answer Standing → StepAnswer
+stepAnswer = crossed stepOut noStep
+
+-- a summary: the number of records, the place of the end, and how many bytes stand behind it
+
+abbrev pub placeOf : End → ℕ
+placeOf (Whole place) = place
+placeOf (Cut place behind) = place
+
+abbrev pub behindOf : End → ℕ
+behindOf (Whole place) = 0
+behindOf (Cut place behind) = behind
+
+abbrev pub summaryOut : Numbered → Summed → SummaryAnswer
+summaryOut n s = record { refusal = n; count = s .count; place = placeOf (s .end); behind = behindOf (s .end) }
+
+abbrev pub noSummary : Summed
+noSummary = record { count = 0; end = Whole 0 }
+
+abbrev pub summaryAnswer : Answer Summed → SummaryAnswer
+summaryAnswer = crossed summaryOut noSummary
+
+-- a kind
+
+abbrev pub kindCode : Name → ℕ
+kindCode request = 0
+kindCode response = 1
+kindCode entity = 2
+kindCode other = 3
+
+abbrev pub kindBy : Numbered → ℕ → KindAnswer
+kindBy n k = record { refusal = n; kind = k }
+
+abbrev pub kindOut : Numbered → Name → KindAnswer
+kindOut n k = kindBy n (kindCode k)
+
+abbrev pub kindAnswer : Answer Name → KindAnswer
+kindAnswer = crossed kindOut request
+
+-- ---- ARGUMENTS
+
+abbrev pub spanIn : Span → Lv
+spanIn s = span (s .start) (s .len)
+
+-- a second name is there where the number is not 0
+abbrev pub secondIn : ℕ → Span → SecondName
+secondIn there s = pick (eqb there 0) Absent (There (spanIn s))
+
+abbrev pub requestIn : Request → FilestoreActionCode → FilestoreRequestTlv
+requestIn q a = aRequest a (spanIn (q .«first_name»)) (secondIn (q .«has_second») (q .«second_name»))
+
+abbrev pub responseIn : Response → FilestoreActionCode → FilestoreResponseTlv
+responseIn q a =
+    aResponse a (q .status) (spanIn (q .«first_name»)) (secondIn (q .«has_second») (q .«second_name»)) (spanIn (q .«filestore_message»))
+
+-- what C hands in: 7 with an action that is none of the nine
+
+abbrev pub requestGiven : Request → Answer FilestoreRequestTlv
+requestGiven q = mapA (requestIn q) (actionOf (q .action))
+
+abbrev pub responseGiven : Response → Answer FilestoreResponseTlv
+responseGiven q = mapA (responseIn q) (actionOf (q .action))
+
+-- WRITING it: 7, then as the library
+
+abbrev pub writeRequest : Request → List ℕ → ℕ → Answer (List ℕ)
+writeRequest q src n = andThen (requestGiven q) (λ x. writeBase (requestBase x) src n)
+
+abbrev pub writeResponse : Response → List ℕ → ℕ → Answer (List ℕ)
+writeResponse q src n = andThen (responseGiven q) (λ x. writeBase (responseBase x) src n)

@@ -1,0 +1,69 @@
+// The library's values of what C hands in.
+use crate::Request;
+use crate::Response;
+use crate::Span;
+use action::ActionCodeRead;
+use action::FilestoreActionCode;
+use filestore::FilestoreRequestRead;
+use filestore::FilestoreRequestTlv;
+use filestore::FilestoreResponseRead;
+use filestore::FilestoreResponseTlv;
+use filestore_base::SecondName;
+use lv::Lv;
+ghost use mathlib.Core.Path.{_≡_};
+ghost use Rattle.filestore.specs.Told.{toldRequest, toldResponse};
+ghost use Rattle.cabi.specs.Boundary.{secondIn, requestGiven, responseGiven};
+
+fn second(there: u8, s: Span) -> SecondName
+    ensures { λ x. ⌜ x ≡ secondIn there s ⌝ }
+{
+    if there == 0 {
+        return SecondName::Absent;
+    }
+    SecondName::There(Lv {
+        start: s.start,
+        len: s.len,
+    })
+}
+
+// 7 where there is no such action.
+pub(crate) fn request(q: Request) -> FilestoreRequestRead
+    ensures { λ x. ⌜ toldRequest x ≡ requestGiven q ⌝ }
+{
+    let f = q.first_name;
+    match FilestoreActionCode::from_code(q.action) {
+        ActionCodeRead::Read(action_code) => FilestoreRequestRead::Read(FilestoreRequestTlv {
+            action_code,
+            first_name: Lv {
+                start: f.start,
+                len: f.len,
+            },
+            second_name: second(q.has_second, q.second_name),
+        }),
+        ActionCodeRead::Refused(r) => FilestoreRequestRead::Refused(r),
+    }
+}
+
+// 7 where there is no such action.
+pub(crate) fn response(q: Response) -> FilestoreResponseRead
+    ensures { λ x. ⌜ toldResponse x ≡ responseGiven q ⌝ }
+{
+    let f = q.first_name;
+    let m = q.filestore_message;
+    match FilestoreActionCode::from_code(q.action) {
+        ActionCodeRead::Read(action_code) => FilestoreResponseRead::Read(FilestoreResponseTlv {
+            action_code,
+            status_code: q.status,
+            first_name: Lv {
+                start: f.start,
+                len: f.len,
+            },
+            second_name: second(q.has_second, q.second_name),
+            filestore_message: Lv {
+                start: m.start,
+                len: m.len,
+            },
+        }),
+        ActionCodeRead::Refused(r) => FilestoreResponseRead::Refused(r),
+    }
+}

@@ -1,0 +1,268 @@
+// The library for C: each function is one call of the library, on numbers and lent bytes, and answers a struct by value. cabi/balunduwa.h declares
+// them again for C. An answer begins with a refusal, number 0 where there is none; behind it stands what the call gives, 0 where it refuses.
+mod answers;
+mod arguments;
+
+use entity_id::EntityIdTlv;
+use entity_id::UnsignedByteField;
+use filestore::FilestoreRequestRead;
+use filestore::FilestoreRequestTlv;
+use filestore::FilestoreResponseRead;
+use filestore::FilestoreResponseTlv;
+use kind::kind_at;
+use lv::Lv;
+use refusal::Written;
+use tlv::Tlv;
+use tlv::TlvTypeField;
+use walk::step_at;
+use walk::summary_of;
+ghost use mathlib.Core.Path.{_≡_};
+ghost use lib.ListN.{length};
+ghost use Rattle.lv.specs.Rules.{readLv, writeLv};
+ghost use Rattle.tlv.specs.Kinds.{fieldOf};
+ghost use Rattle.tlv.specs.Rules.{tlvOf, readTlv, writeTlv};
+ghost use Rattle.entity_id.specs.Rules.{entityOf, readEntity, writeEntity};
+ghost use Rattle.filestore.specs.Rules.{readRequest, strictRequest, readResponse, strictResponse};
+ghost use Rattle.walk.specs.Rules.{stepAt, summaryOf};
+ghost use Rattle.kind.specs.Rules.{kindAt};
+ghost use Rattle.cabi.specs.Boundary.{lvAnswer, tlvAnswer, entityAnswer, requestAnswer, responseAnswer, stepAnswer, summaryAnswer, kindAnswer, Sent};
+ghost use Rattle.cabi.specs.Boundary.{spanIn, writeRequest, writeResponse};
+
+// A refusal: its number and its values, 0 for each that it does not carry.
+#[repr(C)]
+pub struct Numbered {
+    pub number: usize,
+    pub first: usize,
+    pub second: usize,
+}
+
+#[repr(C)]
+pub struct Span {
+    pub start: usize,
+    pub len: usize,
+}
+
+#[repr(C)]
+pub struct WrittenAnswer {
+    pub refusal: Numbered,
+    pub bytes: usize,
+}
+
+#[repr(C)]
+pub struct LvAnswer {
+    pub refusal: Numbered,
+    pub value: Span,
+}
+
+#[repr(C)]
+pub struct TlvAnswer {
+    pub refusal: Numbered,
+    pub tlv_type: u8,
+    pub value: Span,
+}
+
+#[repr(C)]
+pub struct EntityAnswer {
+    pub refusal: Numbered,
+    pub width: usize,
+    pub value: u64,
+}
+
+// The second name is there where has_second is not 0.
+#[repr(C)]
+pub struct Request {
+    pub action: u8,
+    pub has_second: u8,
+    pub first_name: Span,
+    pub second_name: Span,
+}
+
+#[repr(C)]
+pub struct RequestAnswer {
+    pub refusal: Numbered,
+    pub request: Request,
+}
+
+#[repr(C)]
+pub struct Response {
+    pub action: u8,
+    pub status: u8,
+    pub has_second: u8,
+    pub first_name: Span,
+    pub second_name: Span,
+    pub filestore_message: Span,
+}
+
+#[repr(C)]
+pub struct ResponseAnswer {
+    pub refusal: Numbered,
+    pub response: Response,
+}
+
+// what is 0 for a record, 1 for the whole end and 2 for the cut one.
+#[repr(C)]
+pub struct StepAnswer {
+    pub refusal: Numbered,
+    pub what: u8,
+    pub tlv_type: u8,
+    pub place: usize,
+    pub value: Span,
+    pub next: usize,
+    pub behind: usize,
+}
+
+#[repr(C)]
+pub struct SummaryAnswer {
+    pub refusal: Numbered,
+    pub count: usize,
+    pub place: usize,
+    pub behind: usize,
+}
+
+// kind is 0 for a request, 1 for a response, 2 for an entity ID and 3 for any other record.
+#[repr(C)]
+pub struct KindAnswer {
+    pub refusal: Numbered,
+    pub kind: u8,
+}
+
+#[no_mangle]
+pub extern "C" fn balunduwa_lv_read(buf: &[u8]) -> LvAnswer
+    ensures { λ r. ⌜ r ≡ lvAnswer (readLv (now (buf .entry))) ⌝ }
+{
+    answers::lv(Lv::from_bytes(buf))
+}
+
+#[no_mangle]
+pub extern "C" fn balunduwa_lv_write(value: Span, src: &[u8], buf: &mut [u8]) -> WrittenAnswer
+    ensures { λ r. ⌜ Sent (writeLv (spanIn value) (now (src .entry)) (length (now (buf .entry)))) r (now (buf .entry)) (now (buf .exit)) ⌝ }
+{
+    let l = Lv {
+        start: value.start,
+        len: value.len,
+    };
+    answers::written(l.write_to_slice(src, buf))
+}
+
+#[no_mangle]
+pub extern "C" fn balunduwa_tlv_read(buf: &[u8]) -> TlvAnswer
+    ensures { λ r. ⌜ r ≡ tlvAnswer (readTlv (now (buf .entry))) ⌝ }
+{
+    answers::tlv(Tlv::from_bytes(buf))
+}
+
+#[no_mangle]
+pub extern "C" fn balunduwa_tlv_write(
+    tlv_type: u8,
+    value: Span,
+    src: &[u8],
+    buf: &mut [u8],
+) -> WrittenAnswer
+    ensures { λ r. ⌜ Sent (writeTlv (tlvOf (fieldOf «tlv_type») (spanIn value)) (now (src .entry)) (length (now (buf .entry)))) r (now (buf .entry)) (now (buf .exit)) ⌝ }
+{
+    let lv = Lv {
+        start: value.start,
+        len: value.len,
+    };
+    let tlv = Tlv {
+        tlv_type_field: TlvTypeField::from_byte(tlv_type),
+        lv,
+    };
+    answers::written(tlv.write_to_slice(src, buf))
+}
+
+#[no_mangle]
+pub extern "C" fn balunduwa_entity_read(buf: &[u8]) -> EntityAnswer
+    ensures { λ r. ⌜ r ≡ entityAnswer (readEntity (now (buf .entry))) ⌝ }
+{
+    answers::entity(EntityIdTlv::from_bytes(buf))
+}
+
+#[no_mangle]
+pub extern "C" fn balunduwa_entity_write(width: usize, value: u64, buf: &mut [u8]) -> WrittenAnswer
+    ensures { λ r. ⌜ Sent (writeEntity (entityOf width value) (length (now (buf .entry)))) r (now (buf .entry)) (now (buf .exit)) ⌝ }
+{
+    let entity = EntityIdTlv {
+        entity_id: UnsignedByteField { width, value },
+    };
+    answers::written(entity.write_to_slice(buf))
+}
+
+#[no_mangle]
+pub extern "C" fn balunduwa_request_read(buf: &[u8]) -> RequestAnswer
+    ensures { λ r. ⌜ r ≡ requestAnswer (readRequest (now (buf .entry))) ⌝ }
+{
+    answers::request(FilestoreRequestTlv::from_bytes(buf))
+}
+
+#[no_mangle]
+pub extern "C" fn balunduwa_request_read_strict(buf: &[u8]) -> RequestAnswer
+    ensures { λ r. ⌜ r ≡ requestAnswer (strictRequest (now (buf .entry))) ⌝ }
+{
+    answers::request(FilestoreRequestTlv::from_bytes_strict(buf))
+}
+
+// 7 first, for an action over 8: in the library an action is one of the nine.
+#[no_mangle]
+pub extern "C" fn balunduwa_request_write(
+    request: Request,
+    src: &[u8],
+    buf: &mut [u8],
+) -> WrittenAnswer
+    ensures { λ r. ⌜ Sent (writeRequest request (now (src .entry)) (length (now (buf .entry)))) r (now (buf .entry)) (now (buf .exit)) ⌝ }
+{
+    match arguments::request(request) {
+        FilestoreRequestRead::Read(q) => answers::written(q.write_to_slice(src, buf)),
+        FilestoreRequestRead::Refused(r) => answers::written(Written::Refused(r)),
+    }
+}
+
+#[no_mangle]
+pub extern "C" fn balunduwa_response_read(buf: &[u8]) -> ResponseAnswer
+    ensures { λ r. ⌜ r ≡ responseAnswer (readResponse (now (buf .entry))) ⌝ }
+{
+    answers::response(FilestoreResponseTlv::from_bytes(buf))
+}
+
+#[no_mangle]
+pub extern "C" fn balunduwa_response_read_strict(buf: &[u8]) -> ResponseAnswer
+    ensures { λ r. ⌜ r ≡ responseAnswer (strictResponse (now (buf .entry))) ⌝ }
+{
+    answers::response(FilestoreResponseTlv::from_bytes_strict(buf))
+}
+
+// 7 first, as for a request.
+#[no_mangle]
+pub extern "C" fn balunduwa_response_write(
+    response: Response,
+    src: &[u8],
+    buf: &mut [u8],
+) -> WrittenAnswer
+    ensures { λ r. ⌜ Sent (writeResponse response (now (src .entry)) (length (now (buf .entry)))) r (now (buf .entry)) (now (buf .exit)) ⌝ }
+{
+    match arguments::response(response) {
+        FilestoreResponseRead::Read(q) => answers::written(q.write_to_slice(src, buf)),
+        FilestoreResponseRead::Refused(r) => answers::written(Written::Refused(r)),
+    }
+}
+
+#[no_mangle]
+pub extern "C" fn balunduwa_walk_step(buf: &[u8], place: usize) -> StepAnswer
+    ensures { λ r. ⌜ r ≡ stepAnswer (stepAt (now (buf .entry)) place) ⌝ }
+{
+    answers::step(step_at(buf, place))
+}
+
+#[no_mangle]
+pub extern "C" fn balunduwa_walk_summary(buf: &[u8]) -> SummaryAnswer
+    ensures { λ r. ⌜ r ≡ summaryAnswer (summaryOf (now (buf .entry))) ⌝ }
+{
+    answers::summary(summary_of(buf))
+}
+
+#[no_mangle]
+pub extern "C" fn balunduwa_kind_at(buf: &[u8], place: usize) -> KindAnswer
+    ensures { λ r. ⌜ r ≡ kindAnswer (kindAt (now (buf .entry)) place) ⌝ }
+{
+    answers::kind(kind_at(buf, place))
+}
