@@ -7,7 +7,8 @@
 #   BENCH_COUNT    runs a program and counts its instructions      else valgrind --tool=callgrind
 #   BENCH_OBJDUMP  disassembles                                    else objdump
 # What stands behind `else` serves on an x86-64 machine. On another one, `../shared/tools/x86-rust DIR` makes DIR/cargo-x86, DIR/cc-x86,
-# DIR/run-x86 and DIR/count-x86. CABI_LIB is an archive libcabi.a to use in the place of the one that `rt staticlib cabi` proves and writes.
+# DIR/run-x86 and DIR/count-x86; cargo has to build for that machine too, since the Rust's derive macros run there. An objdump is in Debian's
+# binutils-x86-64-linux-gnu. CABI_LIB is an archive libcabi.a to use in the place of the one that `rt staticlib cabi` proves and writes.
 
 stop() {
     echo "$me: $1" >&2

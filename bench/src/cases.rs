@@ -32,11 +32,7 @@ pub struct Case {
 
 /// A side, of an input that is laid ready, a call, and the answer as numbers. The loop is the same for both sides: the input and the room are a
 /// pointer each, of which the optimiser knows nothing, and so is the answer.
-fn side<I: Copy + 'static, A>(
-    input: I,
-    call: impl Fn(&I, &mut Room) -> A + Copy + 'static,
-    numbers: impl Fn(&I, &A) -> Vec<u64> + 'static,
-) -> Side {
+fn side<I: Copy + 'static, A>(input: I, call: impl Fn(&I, &mut Room) -> A + Copy + 'static, numbers: impl Fn(&I, &A) -> Vec<u64> + 'static) -> Side {
     let run = move |rounds| {
         let mut room: Room = vec![0; ROOM].leak();
         for _ in 0..rounds {
@@ -50,6 +46,11 @@ fn side<I: Copy + 'static, A>(
         (numbers(&input, &answer), room.to_vec())
     };
     Side { run: Box::new(run), says: Box::new(says) }
+}
+
+/// A case of one call.
+fn call(name: &'static str, ours: Side, rust: Side) -> Case {
+    Case { name, goal: 1.0, per: 1, ours, rust }
 }
 
 /// Bytes that are there as long as the program runs.
@@ -92,87 +93,93 @@ fn rust_written<E: std::fmt::Debug>(answer: &Result<usize, E>) -> Vec<u64> {
 
 fn lv_read(name: &'static str, len: usize) -> Case {
     let buf = kept([&[len as u8][..], &text(len)].concat());
-    Case {
+    call(
         name,
-        goal: 1.0,
-        per: 1,
-        ours: side(buf, |buf, _| raw::lv_read(buf), |_, a| {
-            given(a.refusal);
-            span(a.value).to_vec()
-        }),
-        rust: side(buf, |buf, _| rust::lv_read(buf), |buf, a| place(buf, a.unwrap().value()).to_vec()),
-    }
+        side(
+            buf,
+            |buf, _| raw::lv_read(buf),
+            |_, a| {
+                given(a.refusal);
+                span(a.value).to_vec()
+            },
+        ),
+        side(buf, |buf, _| rust::lv_read(buf), |buf, a| place(buf, a.unwrap().value()).to_vec()),
+    )
 }
 
 fn lv_write(name: &'static str, len: usize) -> Case {
     let src = kept(text(len));
-    Case {
+    call(
         name,
-        goal: 1.0,
-        per: 1,
-        ours: side((Span { start: 0, len }, src), |(value, src), room| raw::lv_write(*value, src, room), |_, a| written(a)),
-        rust: side(src, |src, room| rust::lv_write(src, room), |_, a| rust_written(a)),
-    }
+        side((Span { start: 0, len }, src), |(value, src), room| raw::lv_write(*value, src, room), |_, a| written(a)),
+        side(src, |src, room| rust::lv_write(src, room), |_, a| rust_written(a)),
+    )
 }
 
 fn tlv_read(name: &'static str, len: usize) -> Case {
     let buf = kept([&[5, len as u8][..], &text(len)].concat());
-    Case {
+    call(
         name,
-        goal: 1.0,
-        per: 1,
-        ours: side(buf, |buf, _| raw::tlv_read(buf), |_, a| {
-            given(a.refusal);
-            [&[a.tlv_type as u64][..], &span(a.value)].concat()
-        }),
-        rust: side(buf, |buf, _| rust::tlv_read(buf), |buf, a| {
-            let tlv = a.unwrap();
-            [&[u8::from(tlv.tlv_type_field()) as u64][..], &place(buf, tlv.value())].concat()
-        }),
-    }
+        side(
+            buf,
+            |buf, _| raw::tlv_read(buf),
+            |_, a| {
+                given(a.refusal);
+                [&[a.tlv_type as u64][..], &span(a.value)].concat()
+            },
+        ),
+        side(
+            buf,
+            |buf, _| rust::tlv_read(buf),
+            |buf, a| {
+                let tlv = a.unwrap();
+                [&[u8::from(tlv.tlv_type_field()) as u64][..], &place(buf, tlv.value())].concat()
+            },
+        ),
+    )
 }
 
 fn tlv_write(name: &'static str, len: usize) -> Case {
     let src = kept(text(len));
-    Case {
+    call(
         name,
-        goal: 1.0,
-        per: 1,
-        ours: side((5, Span { start: 0, len }, src), |(tlv_type, value, src), room| raw::tlv_write(*tlv_type, *value, src, room), |_, a| {
-            written(a)
-        }),
-        rust: side((TlvType::FlowLabel, src), |(tlv_type, src), room| rust::tlv_write(*tlv_type, src, room), |_, a| rust_written(a)),
-    }
+        side((5, Span { start: 0, len }, src), |(tlv_type, value, src), room| raw::tlv_write(*tlv_type, *value, src, room), |_, a| written(a)),
+        side((TlvType::FlowLabel, src), |(tlv_type, src), room| rust::tlv_write(*tlv_type, src, room), |_, a| rust_written(a)),
+    )
 }
 
 const NUMBER: u64 = 0x0102_0304_0506_0708;
 
 fn entity_read(name: &'static str, width: usize) -> Case {
     let buf = kept([&[6, width as u8][..], &NUMBER.to_be_bytes()[8 - width..]].concat());
-    Case {
+    call(
         name,
-        goal: 1.0,
-        per: 1,
-        ours: side(buf, |buf, _| raw::entity_read(buf), |_, a| {
-            given(a.refusal);
-            vec![a.width as u64, a.value]
-        }),
-        rust: side(buf, |buf, _| rust::entity_read(buf), |_, a| {
-            let entity = a.unwrap();
-            vec![entity.len_value() as u64, entity.entity_id().value()]
-        }),
-    }
+        side(
+            buf,
+            |buf, _| raw::entity_read(buf),
+            |_, a| {
+                given(a.refusal);
+                vec![a.width as u64, a.value]
+            },
+        ),
+        side(
+            buf,
+            |buf, _| rust::entity_read(buf),
+            |_, a| {
+                let entity = a.unwrap();
+                vec![entity.len_value() as u64, entity.entity_id().value()]
+            },
+        ),
+    )
 }
 
 fn entity_write(name: &'static str, width: usize) -> Case {
     let number = NUMBER & (u64::MAX >> (64 - 8 * width));
-    Case {
+    call(
         name,
-        goal: 1.0,
-        per: 1,
-        ours: side((width, number), |(width, number), room| raw::entity_write(*width, *number, room), |_, a| written(a)),
-        rust: side((width, number), |(width, number), room| rust::entity_write(*width, *number, room), |_, a| rust_written(a)),
-    }
+        side((width, number), |(width, number), room| raw::entity_write(*width, *number, room), |_, a| written(a)),
+        side((width, number), |(width, number), room| rust::entity_write(*width, *number, room), |_, a| rust_written(a)),
+    )
 }
 
 /// A filestore value: an action, its names, and the message of a response, of these lengths.
@@ -201,11 +208,8 @@ impl Value {
     fn source(self) -> (&'static [u8], [Span; 3]) {
         let second = self.second.unwrap_or(0);
         let src = kept([text(self.first), text(second), text(self.message)].concat());
-        let spans = [
-            Span { start: 0, len: self.first },
-            Span { start: self.first, len: second },
-            Span { start: self.first + second, len: self.message },
-        ];
+        let spans =
+            [Span { start: 0, len: self.first }, Span { start: self.first, len: second }, Span { start: self.first + second, len: self.message }];
         (src, spans)
     }
 }
@@ -217,20 +221,26 @@ fn part(src: &'static [u8], span: Span) -> &'static [u8] {
 
 fn request_read(name: &'static str, value: Value) -> Case {
     let buf = value.bytes(false);
-    Case {
+    call(
         name,
-        goal: 1.0,
-        per: 1,
-        ours: side(buf, |buf, _| raw::request_read(buf), |_, a| {
-            given(a.refusal);
-            let r = a.request;
-            [&[r.action as u64][..], &span(r.first_name), &[r.has_second as u64], &span(r.second_name)].concat()
-        }),
-        rust: side(buf, |buf, _| rust::request_read(buf), |buf, a| {
-            let r = a.unwrap();
-            [&[r.action_code() as u64][..], &place(buf, r.first_name().value()), &second(buf, r.second_name())].concat()
-        }),
-    }
+        side(
+            buf,
+            |buf, _| raw::request_read(buf),
+            |_, a| {
+                given(a.refusal);
+                let r = a.request;
+                [&[r.action as u64][..], &span(r.first_name), &[r.has_second as u64], &span(r.second_name)].concat()
+            },
+        ),
+        side(
+            buf,
+            |buf, _| rust::request_read(buf),
+            |buf, a| {
+                let r = a.unwrap();
+                [&[r.action_code() as u64][..], &place(buf, r.first_name().value()), &second(buf, r.second_name())].concat()
+            },
+        ),
+    )
 }
 
 fn request_write(name: &'static str, value: Value) -> Case {
@@ -238,13 +248,11 @@ fn request_write(name: &'static str, value: Value) -> Case {
     let has_second = value.second.is_some();
     let request = raw::Request { action: value.action as u8, has_second: has_second as u8, first_name, second_name };
     let names = (value.action, part(src, first_name), has_second.then(|| part(src, second_name)));
-    Case {
+    call(
         name,
-        goal: 1.0,
-        per: 1,
-        ours: side((request, src), |(request, src), room| raw::request_write(*request, src, room), |_, a| written(a)),
-        rust: side(names, |(action, first, second), room| rust::request_write(*action, first, *second, room), |_, a| rust_written(a)),
-    }
+        side((request, src), |(request, src), room| raw::request_write(*request, src, room), |_, a| written(a)),
+        side(names, |(action, first, second), room| rust::request_write(*action, first, *second, room), |_, a| rust_written(a)),
+    )
 }
 
 fn response_read(name: &'static str, value: Value) -> Case {
@@ -255,24 +263,30 @@ fn response_read(name: &'static str, value: Value) -> Case {
         let n = r.write_to_slice(&mut room).unwrap();
         room[..n].iter().map(|b| *b as u64).collect::<Vec<_>>()
     };
-    Case {
+    call(
         name,
-        goal: 1.0,
-        per: 1,
-        ours: side(buf, |buf, _| raw::response_read(buf), |buf, a| {
-            given(a.refusal);
-            let r = a.response;
-            let mut room = [0; ROOM];
-            let n = written(&raw::response_write(r, buf, &mut room))[0] as usize;
-            let bytes = room[..n].iter().map(|b| *b as u64).collect::<Vec<_>>();
-            [&[r.action as u64, r.status as u64][..], &span(r.first_name), &[r.has_second as u64], &span(r.second_name), &bytes].concat()
-        }),
-        rust: side(buf, |buf, _| rust::response_read(buf), move |buf, a| {
-            let r = a.unwrap();
-            let head = [r.action_code() as u64, r.status_code() as u64];
-            [&head[..], &place(buf, r.first_name().value()), &second(buf, r.second_name()), &again(&r)].concat()
-        }),
-    }
+        side(
+            buf,
+            |buf, _| raw::response_read(buf),
+            |buf, a| {
+                given(a.refusal);
+                let r = a.response;
+                let mut room = [0; ROOM];
+                let n = written(&raw::response_write(r, buf, &mut room))[0] as usize;
+                let bytes = room[..n].iter().map(|b| *b as u64).collect::<Vec<_>>();
+                [&[r.action as u64, r.status as u64][..], &span(r.first_name), &[r.has_second as u64], &span(r.second_name), &bytes].concat()
+            },
+        ),
+        side(
+            buf,
+            |buf, _| rust::response_read(buf),
+            move |buf, a| {
+                let r = a.unwrap();
+                let head = [r.action_code() as u64, r.status_code() as u64];
+                [&head[..], &place(buf, r.first_name().value()), &second(buf, r.second_name()), &again(&r)].concat()
+            },
+        ),
+    )
 }
 
 fn response_write(name: &'static str, value: Value) -> Case {
@@ -282,17 +296,15 @@ fn response_write(name: &'static str, value: Value) -> Case {
     let response = raw::Response { action, status: STATUS, has_second: has_second as u8, first_name, second_name, filestore_message };
     let second = has_second.then(|| part(src, second_name));
     let names = (value.action, STATUS, part(src, first_name), second, part(src, filestore_message));
-    Case {
+    call(
         name,
-        goal: 1.0,
-        per: 1,
-        ours: side((response, src), |(response, src), room| raw::response_write(*response, src, room), |_, a| written(a)),
-        rust: side(
+        side((response, src), |(response, src), room| raw::response_write(*response, src, room), |_, a| written(a)),
+        side(
             names,
             |(action, status, first, second, message), room| rust::response_write(*action, *status, first, *second, message, room),
             |_, a| rust_written(a),
         ),
-    }
+    )
 }
 
 /// A whole journal of 64 KiB, and how many records it has: their values have `least` to `least + 6` bytes, in no order; the last ones may have
@@ -322,11 +334,15 @@ fn walk(name: &'static str, least: usize) -> Case {
         name,
         goal: 0.5,
         per: count,
-        ours: side(journal, |journal, _| raw::walk_summary(journal), |_, a| {
-            given(a.refusal);
-            assert_eq!(a.behind, 0);
-            vec![a.count as u64, a.place as u64]
-        }),
+        ours: side(
+            journal,
+            |journal, _| raw::walk_summary(journal),
+            |_, a| {
+                given(a.refusal);
+                assert_eq!(a.behind, 0);
+                vec![a.count as u64, a.place as u64]
+            },
+        ),
         rust: side(journal, |journal, _| rust::walk(journal), |_, (count, place)| vec![*count as u64, *place as u64]),
     }
 }

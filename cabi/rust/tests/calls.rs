@@ -63,6 +63,7 @@ fn tlv() {
 
     let tlv = |start, len| Tlv { tlv_type: 5, value: span(start, len) };
     writes(5, &[0x05, 0x02, b'a', b'b'], |buf| write_tlv(tlv(1, 2), b"xab", buf));
+    writes(2, &[0xFF, 0x00], |buf| write_tlv(Tlv { tlv_type: 255, value: span(0, 0) }, b"", buf));
     writes_nothing(5, (4, 256, 0), |buf| write_tlv(tlv(9, 256), b"xab", buf));
     writes_nothing(5, (15, 2, 0), |buf| write_tlv(tlv(2, 2), b"xab", buf));
     writes_nothing(3, (2, 3, 4), |buf| write_tlv(tlv(1, 2), b"xab", buf));
@@ -90,10 +91,7 @@ fn entity() {
 fn request() {
     for read in [read_request, read_request_strict] {
         assert_eq!(read(&[0x00, 0x03, 0x00, 0x01, b'a']), Ok(Request { action: 0, first_name: span(4, 1), second_name: None }));
-        assert_eq!(
-            read(&[0x00, 0x04, 0x20, 0x01, b'a', 0x00]),
-            Ok(Request { action: 2, first_name: span(4, 1), second_name: Some(span(6, 0)) })
-        );
+        assert_eq!(read(&[0x00, 0x04, 0x20, 0x01, b'a', 0x00]), Ok(Request { action: 2, first_name: span(4, 1), second_name: Some(span(6, 0)) }));
         assert_eq!(read(&[0x00]), refuses(1, 1, 2));
         assert_eq!(read(&[0x01, 0x00]), refuses(3, 1, 0));
         assert_eq!(read(&[0x00, 0x05, 0x20]), refuses(1, 3, 7));
