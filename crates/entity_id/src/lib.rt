@@ -12,8 +12,7 @@ use tlv::TlvRead;
 use tlv::TlvType;
 use tlv::TlvTypeField;
 ghost use mathlib.Core.Path.{_≡_};
-ghost use Prim.Native.Nat.{_≤_};
-ghost use lib.ListN.{length, getD};
+ghost use lib.ListN.{length};
 ghost use Rattle.refusal.specs.Answer.{mapA};
 ghost use Rattle.refusal.specs.Told.{toldWritten, toldChecked, toldLength};
 ghost use Rattle.splice.specs.Writing.{Wrote};
@@ -125,25 +124,7 @@ fn numbered(v: &[u8]) -> EntityIdRead
     }
 }
 
-// The entity ID at the front of buf, whose length byte is width. Its caller names each width, so that LLVM makes a copy of it for each: that is
-// what the calls with a constant are for, here and in `written`. The last one serves every width. 3, 5, then 1.
-fn found(buf: &[u8], width: usize) -> EntityIdRead
-    requires { ⌜ (2 ≤ length (now buf)) × (getD (now buf) 1 0 ≡ width) ⌝ }
-    ensures { λ r. ⌜ toldEntity r ≡ readEntity (now (buf .entry)) ⌝ }
-{
-    let test = type_test(buf[0]).then(width_test(width));
-    if let Checked::Refused(r) = test {
-        return EntityIdRead::Refused(r);
-    }
-    let n = buf.len();
-    let expected = width + 2;
-    if n < expected {
-        return EntityIdRead::Refused(Refusal::FromSliceTooSmall { found: n, expected });
-    }
-    numbered(&buf[2..expected])
-}
-
-// Writes an entity ID to the front of buf. 5, 10, then 2.
+// Writes an entity ID to the front of buf. 5, 10, then 2. Its caller names each width, so that LLVM makes a copy of it for each.
 fn written(width: usize, value: u64, buf: &mut [u8]) -> Written
     ensures { λ r. ⌜ Wrote 0 (writeEntity (entityOf width value) (length (now (buf .entry)))) (toldWritten r) (now (buf .entry)) (now (buf .exit)) ⌝ }
 {
@@ -204,13 +185,16 @@ impl EntityIdTlv {
         if let Checked::Refused(r) = head {
             return EntityIdRead::Refused(r);
         }
-        match buf[1] {
-            1 => found(buf, 1),
-            2 => found(buf, 2),
-            4 => found(buf, 4),
-            8 => found(buf, 8),
-            width => found(buf, width as usize),
+        let width = buf[1] as usize;
+        let test = type_test(buf[0]).then(width_test(width));
+        if let Checked::Refused(r) = test {
+            return EntityIdRead::Refused(r);
         }
+        let expected = width + 2;
+        if n < expected {
+            return EntityIdRead::Refused(Refusal::FromSliceTooSmall { found: n, expected });
+        }
+        numbered(&buf[2..expected])
     }
 
     // Writes the number alone to buf, from byte 2 on, and gives the TLV whose value it is. 5, 10, then 2.
@@ -233,13 +217,22 @@ impl EntityIdTlv {
         let id = self.entity_id;
         let width = id.width;
         let value = id.value;
-        match width {
-            1 => written(1, value, buf),
-            2 => written(2, value, buf),
-            4 => written(4, value, buf),
-            8 => written(8, value, buf),
-            _ => written(width, value, buf),
+        if 4 <= width {
+            if width == 4 {
+                return written(4, value, buf);
+            }
+            if width == 8 {
+                return written(8, value, buf);
+            }
+        } else {
+            if width == 1 {
+                return written(1, value, buf);
+            }
+            if width == 2 {
+                return written(2, value, buf);
+            }
         }
+        written(width, value, buf)
     }
 
     // The length of the written TLV. 5, then 10.

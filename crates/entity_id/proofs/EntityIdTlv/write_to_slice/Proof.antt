@@ -1,6 +1,7 @@
--- `EntityIdTlv::write_to_slice` meets its contract: each arm is the same call, on the width that it has. Assumes nothing.
+-- `EntityIdTlv::write_to_slice` meets its contract: each of its ways is the same call, on the width that it has. Assumes nothing.
 use mathlib.Core.Path.{_≡_, sym, subst}
 use Prim.Native.Nat.{ℕ}
+use native.Mathlib.Omega.{arith}
 use mathlib.Core.List.{List}
 use lib.ListN.{length}
 use denote.Ref.{now}
@@ -17,41 +18,41 @@ of-width out {told = told} {old = old} {new = new} e h = subst (λ (y : ℕ). Wr
 written-requires : tie.Need-written-requires
 written-requires c κs = search needs
 
-written-requires-2 : tie.Need-written-requires-2
-written-requires-2 c κs = search needs
-
-written-requires-3 : tie.Need-written-requires-3
-written-requires-3 c κs = search needs
-
-written-requires-4 : tie.Need-written-requires-4
-written-requires-4 c κs = search needs
-
-written-requires-5 : tie.Need-written-requires-5
-written-requires-5 c κs = search needs
-
 same-length : tie.Need-same-length
 same-length c = search needs
 
 returns : tie.Need-returns
-returns c = of-width (λ w. writeEntity (entityOf w (c .before .before .before .before .before .before .before .args .self .«entity_id» .value)) (length (now (c .before .before .before .before .before .before .before .args .buf)))) (c .before .before .before .before .match .keys1) (c .before .before .written .ensures)
+returns c = of-width (λ w. writeEntity (entityOf w (c .before .before .before .before .before .before .before .before .args .self .«entity_id» .value)) (length (now (c .before .before .before .before .before .before .before .before .args .buf)))) (omega arith) (c .before .before .written .ensures)
+
+written-requires-2 : tie.Need-written-requires-2
+written-requires-2 c κs = search needs
 
 same-length-2 : tie.Need-same-length-2
 same-length-2 c = search needs
 
 returns-2 : tie.Need-returns-2
-returns-2 c = of-width (λ w. writeEntity (entityOf w (c .before .before .before .before .before .before .before .args .self .«entity_id» .value)) (length (now (c .before .before .before .before .before .before .before .args .buf)))) (c .before .before .before .before .match .keys2) (c .before .before .written2 .ensures)
+returns-2 c = of-width (λ w. writeEntity (entityOf w (c .before .before .before .before .before .before .before .before .before .args .self .«entity_id» .value)) (length (now (c .before .before .before .before .before .before .before .before .before .args .buf)))) (omega arith) (c .before .before .written2 .ensures)
+
+written-requires-3 : tie.Need-written-requires-3
+written-requires-3 c κs = search needs
 
 same-length-3 : tie.Need-same-length-3
 same-length-3 c = search needs
 
 returns-3 : tie.Need-returns-3
-returns-3 c = of-width (λ w. writeEntity (entityOf w (c .before .before .before .before .before .before .before .args .self .«entity_id» .value)) (length (now (c .before .before .before .before .before .before .before .args .buf)))) (c .before .before .before .before .match .keys3) (c .before .before .written3 .ensures)
+returns-3 c = of-width (λ w. writeEntity (entityOf w (c .before .before .before .before .before .before .before .before .args .self .«entity_id» .value)) (length (now (c .before .before .before .before .before .before .before .before .args .buf)))) (omega arith) (c .before .before .written3 .ensures)
+
+written-requires-4 : tie.Need-written-requires-4
+written-requires-4 c κs = search needs
 
 same-length-4 : tie.Need-same-length-4
 same-length-4 c = search needs
 
 returns-4 : tie.Need-returns-4
-returns-4 c = of-width (λ w. writeEntity (entityOf w (c .before .before .before .before .before .before .before .args .self .«entity_id» .value)) (length (now (c .before .before .before .before .before .before .before .args .buf)))) (c .before .before .before .before .match .keys4) (c .before .before .written4 .ensures)
+returns-4 c = of-width (λ w. writeEntity (entityOf w (c .before .before .before .before .before .before .before .before .before .args .self .«entity_id» .value)) (length (now (c .before .before .before .before .before .before .before .before .before .args .buf)))) (omega arith) (c .before .before .written4 .ensures)
+
+written-requires-5 : tie.Need-written-requires-5
+written-requires-5 c κs = search needs
 
 same-length-5 : tie.Need-same-length-5
 same-length-5 c = search needs
@@ -64,17 +65,17 @@ write-to-slice-spec =
     tie.close
     (tie.spec
     written-requires
-    written-requires-2
-    written-requires-3
-    written-requires-4
-    written-requires-5
     same-length
     returns
+    written-requires-2
     same-length-2
     returns-2
+    written-requires-3
     same-length-3
     returns-3
+    written-requires-4
     same-length-4
     returns-4
+    written-requires-5
     same-length-5
     returns-5)
