@@ -7,8 +7,10 @@
 #   BENCH_COUNT    runs a program and counts its instructions      else valgrind --tool=callgrind
 #   BENCH_OBJDUMP  disassembles                                    else objdump
 # What stands behind `else` serves on an x86-64 machine. On another one, `../shared/tools/x86-rust DIR` makes DIR/cargo-x86, DIR/cc-x86,
-# DIR/run-x86 and DIR/count-x86; cargo has to build for that machine too, since the Rust's derive macros run there. An objdump is in Debian's
-# binutils-x86-64-linux-gnu. CABI_LIB is an archive libcabi.a to use in the place of the one that `rt staticlib cabi` proves and writes.
+# DIR/run-x86 and DIR/count-x86. Derive macros and build scripts run on that machine itself, so its own standard library is needed beside them:
+#   apt-get update && apt-get download libstd-rust-web-dev && dpkg-deb -x libstd-rust-web-dev_*.deb DIR/root
+# An objdump for x86-64 is in Debian's binutils-x86-64-linux-gnu.
+# CABI_LIB is an archive libcabi.a to use in the place of the one that `rt staticlib cabi` proves and writes.
 
 stop() {
     echo "$me: $1" >&2
@@ -57,4 +59,21 @@ archive() {
 x86_cargo() { # VERB ARGUMENTS..
     BALUNDUWA_LIB_DIR=$lib CARGO_TARGET_DIR=$top/target/cargo CARGO_BUILD_TARGET=x86_64-unknown-linux-gnu \
         CARGO_TARGET_X86_64_UNKNOWN_LINUX_GNU_RUNNER=$BENCH_RUN $BENCH_CARGO "$@"
+}
+
+# The same, with what it says only where it fails. Where it cannot build for the machine itself: one line, and all is left out, with status 0.
+x86_built() { # VERB ARGUMENTS..
+    said=$(mktemp)
+    if x86_cargo "$@" >"$said" 2>&1; then
+        rm -f "$said"
+        return
+    fi
+    if grep -q "can't find crate for .\(std\|core\)." "$said"; then
+        rm -f "$said"
+        echo "$me: left out: $BENCH_CARGO has no standard library for this machine itself (see cabi/tools.sh)"
+        exit 0
+    fi
+    cat "$said" >&2
+    rm -f "$said"
+    stop "the Rust does not build"
 }
