@@ -124,16 +124,14 @@ balunduwa_written balunduwa_response_write(balunduwa_response response, const ui
 /* What stands at a place: a record, the whole end, or the cut end. */
 enum { BALUNDUWA_RECORD = 0, BALUNDUWA_WHOLE = 1, BALUNDUWA_CUT = 2 };
 
-/* The place is the record's, or the end's. Of a record: its type byte, its value and the place behind it. Of a cut end: the count of bytes
- * behind the place. */
+/* Of a record: its type byte, its value, and next, the place behind it. Of an end: in value what is left from its place on, nothing of a whole
+ * one, and in next that place, at which a record is appended. */
 typedef struct {
     balunduwa_refusal refusal;
     uint8_t what;
     uint8_t tlv_type;
-    size_t place;
     balunduwa_span value;
     size_t next;
-    size_t behind;
 } balunduwa_step;
 
 /* What stands at a place of the journal: 14, 15. */

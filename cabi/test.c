@@ -297,10 +297,8 @@ static void step(int line, size_t n, size_t place, balunduwa_step expected) {
     same_refusal(line, a.refusal, expected.refusal);
     same(line, "what stands there", a.what, expected.what);
     same(line, "the type", a.tlv_type, expected.tlv_type);
-    same(line, "the place", a.place, expected.place);
     same_span(line, "the value's start", "the value's length", a.value, expected.value);
     same(line, "the next place", a.next, expected.next);
-    same(line, "the bytes behind", a.behind, expected.behind);
 }
 #define STEP(n, place, ...) step(__LINE__, n, place, (balunduwa_step){__VA_ARGS__})
 
@@ -323,13 +321,13 @@ static void kind(int line, const uint8_t *buf, size_t n, size_t place, balunduwa
 #define KIND(...) kind(__LINE__, __VA_ARGS__)
 
 static void test_walk(void) {
-    STEP(6, 0, FINE, BALUNDUWA_RECORD, 5, 0, SPAN(2, 1), 3, 0);
-    STEP(6, 3, FINE, BALUNDUWA_RECORD, 6, 3, SPAN(5, 1), 6, 0);
-    STEP(6, 6, FINE, BALUNDUWA_WHOLE, 0, 6, NOWHERE, 0, 0);
-    STEP(5, 3, FINE, BALUNDUWA_CUT, 0, 3, NOWHERE, 0, 2);
-    STEP(4, 3, FINE, BALUNDUWA_CUT, 0, 3, NOWHERE, 0, 1);
-    STEP(0, 0, FINE, BALUNDUWA_WHOLE, 0, 0, NOWHERE, 0, 0);
-    STEP(BALUNDUWA_LIMIT, 65534, FINE, BALUNDUWA_RECORD, 0, 65534, SPAN(65536, 0), 65536, 0);
+    STEP(6, 0, FINE, BALUNDUWA_RECORD, 5, SPAN(2, 1), 3);
+    STEP(6, 3, FINE, BALUNDUWA_RECORD, 6, SPAN(5, 1), 6);
+    STEP(6, 6, FINE, BALUNDUWA_WHOLE, 0, SPAN(6, 0), 6);
+    STEP(5, 3, FINE, BALUNDUWA_CUT, 0, SPAN(3, 2), 3);
+    STEP(4, 3, FINE, BALUNDUWA_CUT, 0, SPAN(3, 1), 3);
+    STEP(0, 0, FINE, BALUNDUWA_WHOLE, 0, SPAN(0, 0), 0);
+    STEP(BALUNDUWA_LIMIT, 65534, FINE, BALUNDUWA_RECORD, 0, SPAN(65536, 0), 65536);
     STEP(BALUNDUWA_LIMIT + 1, 70000, REFUSAL(14, 65537));
     STEP(6, 7, REFUSAL(15, 7));
 

@@ -225,11 +225,11 @@ pub fn step(journal: &[u8], place: usize) -> Result<Step<'_>, Refusal> {
     let answer = raw::walk_step(journal, place);
     given(answer.refusal)?;
     if answer.what != raw::RECORD {
-        return Ok(Step::End(End { place: answer.place, behind: answer.behind }));
+        return Ok(Step::End(End { place: answer.next, behind: answer.value.len }));
     }
     let start = answer.value.start;
     let value = &journal[start..start + answer.value.len];
-    Ok(Step::Record(Record { place: answer.place, tlv_type: answer.tlv_type, value }, answer.next))
+    Ok(Step::Record(Record { place, tlv_type: answer.tlv_type, value }, answer.next))
 }
 
 /// The records of the journal, from its first byte on.

@@ -91,10 +91,8 @@ pub struct Step {
     pub refusal: Refusal,
     pub what: u8,
     pub tlv_type: u8,
-    pub place: usize,
     pub value: Span,
     pub next: usize,
-    pub behind: usize,
 }
 
 #[repr(C)]

@@ -160,23 +160,15 @@ noResponse = aResponse CreateFile 0 none Absent none
 abbrev pub responseAnswer : Answer FilestoreResponseTlv → ResponseAnswer
 responseAnswer = crossed responseOut noResponse
 
--- what stands at a place: 0 a record, 1 the whole end, 2 the cut one
+-- what stands at a place: 0 a record, its value and the place behind it; 1 the whole end, 2 the cut one, what is left from its place on, and its place
 
-abbrev pub stepBy : Numbered → ℕ → ℕ → ℕ → Lv → ℕ → ℕ → StepAnswer
-stepBy n what kind place value next behind = record {
-  refusal = n;
-  what = what;
-  «tlv_type» = kind;
-  place = place;
-  value = spanOf value;
-  next = next;
-  behind = behind;
-}
+abbrev pub stepBy : Numbered → ℕ → ℕ → Lv → ℕ → StepAnswer
+stepBy n what kind value next = record { refusal = n; what = what; «tlv_type» = kind; value = spanOf value; next = next }
 
 abbrev pub stepOut : Numbered → Standing → StepAnswer
-stepOut n (found r next) = stepBy n 0 (r .«tlv_type») (r .place) (r .value) next 0
-stepOut n (ended (Whole place)) = stepBy n 1 0 place none 0 0
-stepOut n (ended (Cut place behind)) = stepBy n 2 0 place none 0 behind
+stepOut n (found r next) = stepBy n 0 (r .«tlv_type») (r .value) next
+stepOut n (ended (Whole place)) = stepBy n 1 0 (span place 0) place
+stepOut n (ended (Cut place behind)) = stepBy n 2 0 (span place behind) place
 
 abbrev pub noStep : Standing
 noStep = found (record { place = 0; «tlv_type» = 0; value = none }) 0

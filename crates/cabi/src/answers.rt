@@ -30,13 +30,14 @@ use walk::Summary;
 ghost use mathlib.Core.Path.{_≡_};
 ghost use mathlib.Core.List.{[]};
 ghost use Rattle.refusal.specs.Told.{numberOf, valuesOf, toldWritten};
+ghost use Rattle.lv.specs.Rules.{span};
 ghost use Rattle.lv.specs.Told.{toldLv};
 ghost use Rattle.tlv.specs.Told.{toldTlv};
 ghost use Rattle.entity_id.specs.Told.{toldEntity};
 ghost use Rattle.filestore.specs.Told.{toldRequest, toldResponse};
 ghost use Rattle.walk.specs.Told.{toldStep, toldSummary};
 ghost use Rattle.kind.specs.Told.{toldKind};
-ghost use Rattle.cabi.specs.Boundary.{numbered, none, hasSecond, secondSpan, requestOf, responseOf, stepBy, kindBy, writtenAnswer, lvAnswer, tlvAnswer, entityAnswer, requestAnswer, responseAnswer, stepAnswer, summaryAnswer, kindAnswer};
+ghost use Rattle.cabi.specs.Boundary.{numbered, hasSecond, secondSpan, requestOf, responseOf, stepBy, kindBy, writtenAnswer, lvAnswer, tlvAnswer, entityAnswer, requestAnswer, responseAnswer, stepAnswer, summaryAnswer, kindAnswer};
 
 // Where nothing is refused.
 fn none() -> Numbered
@@ -254,16 +255,17 @@ pub(crate) fn response(a: FilestoreResponseRead) -> ResponseAnswer
 
 // A step that finds no record.
 fn at(refusal: Numbered, what: u8, place: usize, behind: usize) -> StepAnswer
-    ensures { λ x. ⌜ x ≡ stepBy refusal what 0 place none 0 behind ⌝ }
+    ensures { λ x. ⌜ x ≡ stepBy refusal what 0 (span place behind) place ⌝ }
 {
     StepAnswer {
         refusal,
         what,
         tlv_type: 0,
-        place,
-        value: Span { start: 0, len: 0 },
-        next: 0,
-        behind,
+        value: Span {
+            start: place,
+            len: behind,
+        },
+        next: place,
     }
 }
 
@@ -277,13 +279,11 @@ pub(crate) fn step(a: Step) -> StepAnswer
                 refusal: none(),
                 what: 0,
                 tlv_type: record.tlv_type,
-                place: record.place,
                 value: Span {
                     start: l.start,
                     len: l.len,
                 },
                 next,
-                behind: 0,
             }
         }
         Step::End(end) => match end {

@@ -98,16 +98,15 @@ pub struct ResponseAnswer {
     pub response: Response,
 }
 
-// what is 0 for a record, 1 for the whole end and 2 for the cut one.
+// what is 0 for a record, 1 for the whole end and 2 for the cut one. Of a record: its value, and the place behind it. Of an end: what is left from its
+// place on, and that place.
 #[repr(C)]
 pub struct StepAnswer {
     pub refusal: Numbered,
     pub what: u8,
     pub tlv_type: u8,
-    pub place: usize,
     pub value: Span,
     pub next: usize,
-    pub behind: usize,
 }
 
 #[repr(C)]
