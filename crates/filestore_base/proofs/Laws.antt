@@ -1,24 +1,26 @@
 -- The laws of `specs/Rules.antt`, a case each: this crate's proofs cite them, and so do those above it. Assumes nothing.
 use mathlib.Core.Path.{_≡_, refl, sym, ap, subst, _∙_}
-use Prim.Native.Nat.{ℕ, _+_, _*_, _≤_, _<_}
+use Prim.Native.Nat.{ℕ, _+_, _-_, _*_, _≤_, _<_}
 use native.Mathlib.Omega.{arith}
 use mathlib.Core.Bool.{Bool, true, false, not, _&&_}
 use mathlib.Core.Option.{none}
-use mathlib.Core.List.{List, [], _∷_, _++_}
-use lib.ListN.{length, set, length-append, length-set}
+use mathlib.Core.List.{List, [], _∷_, _++_, append-assoc}
+use native.Mathlib.Nat.{add-sub-cancel-left}
+use lib.ListN.{length, take, drop, set, length-append, length-set}
 use lib.Dec.{eqb}
 use borrow.Author.Tests.{eq-eqb, ne-eqb}
+use borrow.Rule.Slice.PartMut.{putMid, post-is, mid-len}
 use Rattle.bluebook.specs.Layouts.{lv, lvIf, there}
-use Rattle.refusal.specs.Answer.{Answer, gives, refuses, mapA, also}
-use Rattle.refusal.proofs.Laws.{gives-same, also-refused, also-passed, also-both, also-mapped, limit-in, limit-passed}
+use Rattle.refusal.specs.Answer.{Answer, gives, refuses, mapA, also, Test}
+use Rattle.refusal.proofs.Laws.{gives-same, also-refused, also-passed, also-both, also-assoc, also-mapped, limit-in, limit-passed}
 use Rattle.splice.specs.Laid.{laid, sameBytes}
-use Rattle.splice.specs.Writing.{Wrote}
-use Rattle.splice.proofs.Laws.{laid-cons, laid-behind, laid-none}
-use Rattle.splice.proofs.Writing.{roomFor-in, roomFor-out, wrote, wrote-not, wrote-refused, wrote-passed}
+use Rattle.splice.specs.Writing.{roomAt, Wrote}
+use Rattle.splice.proofs.Laws.{laid-is, laid-all, laid-cons, laid-behind, laid-none}
+use Rattle.splice.proofs.Writing.{roomFor-in, roomFor-out, wrote, wrote-not, wrote-refused, wrote-passed, wrote-laid}
 use Rattle.lv.specs.Rules.{partOf, spanTest, sizeTest}
 use Rattle.lv.specs.Rules as lvs
 use Rattle.lv.specs.declared.Lv.{Lv}
-use Rattle.lv.proofs.Laws.{sizeTest-in, sizeTest-passed, spanTest-in, spanTest-passed, writeTest-passed, writeLvAt-laid, length-partOf}
+use Rattle.lv.proofs.Laws.{sizeTest-in, sizeTest-passed, spanTest-in, spanTest-passed, Sound, sound, writeTest-passed, partOf-in, length-partOf}
 use Rattle.action.specs.Rules.{codeOf, dueOf}
 use Rattle.filestore_base.specs.Meaning.{Filed, kindOf, isThere, partIf, meaning, partsOf, valueOf, filedTlv}
 use Rattle.filestore_base.specs.Rules.{sizeIf, spanIf, lenIf, dueTest, statusTest, partsTest, lenOf, lengthTest, buildTest, lenValue, lenFull, spansTest, writeTest, writeBase, sameIf, sameOctet, sameParts, sameBase, FitsIf}
@@ -32,6 +34,10 @@ pub sizeIf-passed : (s : SecondName) → gives tt ≡ sizeIf s → lenIf s ≤ 2
 sizeIf-passed (There l) e = omega (arith, sizeTest-passed l e)
 sizeIf-passed Absent e = omega arith
 
+-- the answer behind a test that was passed
+pub behind : {a b t : Test} → gives tt ≡ a → t ≡ b → t ≡ also a b
+behind {a} {b} p e = e ∙ sym (also-passed a b p)
+
 -- ---- building
 
 -- what is known of parts that passed
@@ -43,26 +49,23 @@ pub record Parts (b : FilestoreTlvBase) : Type 0 where
   pub low : b .«low_bits» ≤ 15
 
 module _ (b : FilestoreTlvBase) where
-  pub partsTest-is : also
-      (also
-      (also (also (sizeTest (b .«first_name»)) (sizeIf (b .«second_name»))) (sizeIf (b .message)))
-      (dueTest (dueOf (b .«action_code»)) (b .«second_name»)))
-      (statusTest (b .«low_bits»)) ≡ partsTest b
+  -- one test behind the other
+  pub partsTest-row : also (sizeTest (b .«first_name»)) (also (sizeIf (b .«second_name»)) (also (sizeIf (b .message)) (also (dueTest (dueOf (b .«action_code»)) (b .«second_name»)) (statusTest (b .«low_bits»))))) ≡ partsTest b
   unfolding partsTest
-  partsTest-is = refl
+  partsTest-row = sym (simp also-assoc)
 
   pub parts : gives tt ≡ partsTest b → Parts b
   parts e =
-      let p = also-both (also (also (also (sizeTest (b .«first_name»)) (sizeIf (b .«second_name»))) (sizeIf (b .message))) (dueTest (dueOf (b .«action_code»)) (b .«second_name»))) (statusTest (b .«low_bits»)) tt (e ∙ sym partsTest-is) in
-      let q = also-both (also (also (sizeTest (b .«first_name»)) (sizeIf (b .«second_name»))) (sizeIf (b .message))) (dueTest (dueOf (b .«action_code»)) (b .«second_name»)) tt (p .0) in
-      let r = also-both (also (sizeTest (b .«first_name»)) (sizeIf (b .«second_name»))) (sizeIf (b .message)) tt (q .0) in
-      let s = also-both (sizeTest (b .«first_name»)) (sizeIf (b .«second_name»)) tt (r .0) in
-      record { first = sizeTest-passed (b .«first_name») (s .0); second = s .1; message = r .1; due = q .1; low = limit-passed 9 15 (b .«low_bits») (p .1) }
+      let p = also-both (sizeTest (b .«first_name»)) (also (sizeIf (b .«second_name»)) (also (sizeIf (b .message)) (also (dueTest (dueOf (b .«action_code»)) (b .«second_name»)) (statusTest (b .«low_bits»))))) tt (e ∙ sym partsTest-row) in
+      let q = also-both (sizeIf (b .«second_name»)) (also (sizeIf (b .message)) (also (dueTest (dueOf (b .«action_code»)) (b .«second_name»)) (statusTest (b .«low_bits»)))) tt (p .1) in
+      let r = also-both (sizeIf (b .message)) (also (dueTest (dueOf (b .«action_code»)) (b .«second_name»)) (statusTest (b .«low_bits»))) tt (q .1) in
+      let s = also-both (dueTest (dueOf (b .«action_code»)) (b .«second_name»)) (statusTest (b .«low_bits»)) tt (r .1) in
+      record { first = sizeTest-passed (b .«first_name») (p .0); second = q .0; message = r .0; due = s .0; low = limit-passed 9 15 (b .«low_bits») (s .1) }
 
   pub parts-passed : Parts b → gives tt ≡ partsTest b
   parts-passed p =
       sym (rw (sizeTest-in (b .«first_name») (p .first), ← p .second, ← p .message, ← p .due, limit-in 9 15 (b .«low_bits») (p .low)))
-      ∙ partsTest-is
+      ∙ partsTest-row
 
   pub buildTest-refused : (n : ℕ) (vs : List ℕ) → refuses n vs ≡ partsTest b → refuses n vs ≡ buildTest b
   unfolding buildTest
@@ -124,12 +127,37 @@ pub fits-if : (s : SecondName) (src : List ℕ) (at n : ℕ) → SoundIf s src �
 fits-if (There l) src at n h k = (h, k)
 fits-if Absent src at n h k = tt
 
--- what is there is laid as an LV, and what is absent changes nothing
+-- what is known of one that is there and fits
+pub fits : (s : SecondName) (l : Lv) (src : List ℕ) (at n : ℕ) → s ≡ There l → FitsIf s src at n → Sound l src × (at + (l .len + 1) ≤ n)
+fits s l src at n e h =
+    let f : FitsIf (There l) src at n = subst (λ (x : SecondName). FitsIf x src at n) e h in
+    (sound l src (f .0), f .1)
+
+-- bytes as many as a part that was lent, put back, are laid
+put-mid : (a e : ℕ) (xs ys : List ℕ) → a ≤ e → length ys ≡ e - a → putMid a (e - a) xs ys ≡ laid a ys xs
+put-mid a e xs ys h k =
+    let n : e ≡ a + length ys = omega arith in
+    ap (λ (z : List ℕ). take a xs ++ (ys ++ z)) (post-is a e xs h ∙ ap (λ (m : ℕ). drop m xs) n) ∙ sym (laid-is a ys xs ∙ append-assoc (take a xs) ys (drop (a + length ys) xs))
+
+-- what is there is laid as an LV, the length byte and then the value, and what is absent changes nothing
 pub put-there : (s : SecondName) (l : Lv) (src old new : List ℕ) (at : ℕ) {told : Answer ℕ} → s ≡ There l → FitsIf s src at (length old)
-    → Wrote at (lvs.writeLvAt l src at (length old)) told old new → new ≡ laid at (lvIf (partIf s src)) old
+    → (let d = set old at (l .len) in let part = take (at + 1 + l .len - (at + 1)) (drop (at + 1) d) in
+    Wrote 0 (roomAt 0 (length part) (take (l .start + l .len - l .start) (drop (l .start) src))) told part new)
+    → putMid (at + 1) (at + 1 + l .len - (at + 1)) (set old at (l .len)) new ≡ laid at (lvIf (partIf s src)) old
 put-there s l src old new at e h w =
-    let f : FitsIf (There l) src at (length old) = subst (λ (x : SecondName). FitsIf x src at (length old)) e h in
-    writeLvAt-laid l src old new at (f .0) (f .1) w ∙ ap (λ (x : SecondName). laid at (lvIf (partIf x src)) old) (sym e)
+    let f = fits s l src at (length old) e h in
+    let d = set old at (l .len) in
+    let part = take (at + 1 + l .len - (at + 1)) (drop (at + 1) d) in
+    let v = take (l .start + l .len - l .start) (drop (l .start) src) in
+    let p : v ≡ partOf l src = rw add-sub-cancel-left (sym (partOf-in l src (f .0 .inside))) in
+    let n : length v ≡ l .len = ap length p ∙ f .0 .size in
+    let k : length part ≡ l .len = mid-len (at + 1) (at + 1 + l .len) d (simp length-set (omega (arith, f .1))) ∙ add-sub-cancel-left _ _ in
+    let q : new ≡ v = wrote-laid 0 v part new (omega arith) w ∙ laid-all v part (n ∙ sym k) in
+    put-mid (at + 1) (at + 1 + l .len) d new (omega arith) (ap length q ∙ n ∙ sym (add-sub-cancel-left _ _))
+    ∙ ap (λ (z : List ℕ). laid (at + 1) z d) q
+    ∙ laid-cons at (l .len) v old (omega (arith, f .1))
+    ∙ (λ i. laid at (sym (f .0 .size) i ∷ p i) old)
+    ∙ ap (λ (x : SecondName). laid at (lvIf (partIf x src)) old) (sym e)
 
 pub put-absent : (s : SecondName) (src old : List ℕ) (at : ℕ) → s ≡ Absent → old ≡ laid at (lvIf (partIf s src)) old
 put-absent s src old at e = sym (ap (λ (x : SecondName). laid at (lvIf (partIf x src)) old) e ∙ laid-none at old)
@@ -144,18 +172,19 @@ pub record Spans (b : FilestoreTlvBase) (bs : List ℕ) : Type 0 where
   pub message : gives tt ≡ spanIf (b .message) bs
 
 module _ (b : FilestoreTlvBase) (bs : List ℕ) where
-  pub spansTest-is : also (also (spanTest (b .«first_name») bs) (spanIf (b .«second_name») bs)) (spanIf (b .message) bs) ≡ spansTest b bs
+  -- one test behind the other
+  pub spansTest-row : also (spanTest (b .«first_name») bs) (also (spanIf (b .«second_name») bs) (spanIf (b .message) bs)) ≡ spansTest b bs
   unfolding spansTest
-  spansTest-is = refl
+  spansTest-row = sym (simp also-assoc)
 
   pub spans : gives tt ≡ spansTest b bs → Spans b bs
   spans e =
-      let p = also-both (also (spanTest (b .«first_name») bs) (spanIf (b .«second_name») bs)) (spanIf (b .message) bs) tt (e ∙ sym spansTest-is) in
-      let q = also-both (spanTest (b .«first_name») bs) (spanIf (b .«second_name») bs) tt (p .0) in
-      record { first = spanTest-passed (b .«first_name») bs (q .0); second = q .1; message = p .1 }
+      let p = also-both (spanTest (b .«first_name») bs) (also (spanIf (b .«second_name») bs) (spanIf (b .message) bs)) tt (e ∙ sym spansTest-row) in
+      let q = also-both (spanIf (b .«second_name») bs) (spanIf (b .message) bs) tt (p .1) in
+      record { first = spanTest-passed (b .«first_name») bs (p .0); second = q .0; message = q .1 }
 
   pub spans-passed : Spans b bs → gives tt ≡ spansTest b bs
-  spans-passed s = sym (rw (spanTest-in (b .«first_name») bs (s .first), ← s .second, ← s .message)) ∙ spansTest-is
+  spans-passed s = sym (rw (spanTest-in (b .«first_name») bs (s .first), ← s .second, ← s .message)) ∙ spansTest-row
 
   -- the value's length is that of its parts
   pub length-value : Spans b bs → length (valueOf (meaning b bs)) ≡ lenOf b

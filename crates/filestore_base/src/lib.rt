@@ -97,13 +97,19 @@ impl SecondName {
         }
     }
 
-    // Writes it as an LV to buf from the place at on, where it is there.
+    // Writes it as an LV to buf from the place at on, where it is there. `Lv::write_at` would test again what is required here; of a length that
+    // is a byte's, and of a part of buf as long as the value, LLVM sees that `splice::put` has nothing to test.
     fn put(self, src: &[u8], buf: &mut [u8], at: usize)
         requires { ⌜ FitsIf self (now src) at (length (now buf)) ⌝ }
         ensures { λ _. ⌜ now (buf .exit) ≡ laid at (lvIf (partIf self (now (src .entry)))) (now (buf .entry)) ⌝ }
     {
         if let SecondName::There(l) = self {
-            l.write_at(src, buf, at);
+            let start = l.start;
+            let byte = l.len as u8;
+            let len = byte as usize;
+            let next = at + 1;
+            buf[at] = byte;
+            splice::put(&mut buf[next..next + len], 0, &src[start..start + len]);
         }
     }
 
@@ -162,12 +168,23 @@ impl FilestoreTlvBase {
         let first = self.first_name;
         let second = self.second_name;
         let message = self.message;
-        first
-            .size_test()
-            .then(second.size_test())
-            .then(message.size_test())
-            .then(second.due_test(action_code))
-            .then(status_test(self.low_bits))
+        let test = first.size_test();
+        if let Checked::Refused(r) = test {
+            return Checked::Refused(r);
+        }
+        let test = second.size_test();
+        if let Checked::Refused(r) = test {
+            return Checked::Refused(r);
+        }
+        let test = message.size_test();
+        if let Checked::Refused(r) = test {
+            return Checked::Refused(r);
+        }
+        let test = second.due_test(action_code);
+        if let Checked::Refused(r) = test {
+            return Checked::Refused(r);
+        }
+        status_test(self.low_bits)
     }
 
     // The length of the value.
@@ -224,10 +241,15 @@ impl FilestoreTlvBase {
         let first = self.first_name;
         let second = self.second_name;
         let message = self.message;
-        first
-            .span_test(buf)
-            .then(second.span_test(buf))
-            .then(message.span_test(buf))
+        let test = first.span_test(buf);
+        if let Checked::Refused(r) = test {
+            return Checked::Refused(r);
+        }
+        let test = second.span_test(buf);
+        if let Checked::Refused(r) = test {
+            return Checked::Refused(r);
+        }
+        message.span_test(buf)
     }
 
     // Writes the names and the message behind the value's first byte.
@@ -248,7 +270,11 @@ impl FilestoreTlvBase {
     pub fn write_to_slice(self, src: &[u8], buf: &mut [u8]) -> Written
         ensures { λ r. ⌜ Wrote 0 (writeBase self (now (src .entry)) (length (now (buf .entry)))) (toldWritten r) (now (buf .entry)) (now (buf .exit)) ⌝ }
     {
-        let test = self.build_test().then(self.span_test(src));
+        let test = self.build_test();
+        if let Checked::Refused(r) = test {
+            return Written::Refused(r);
+        }
+        let test = self.span_test(src);
         if let Checked::Refused(r) = test {
             return Written::Refused(r);
         }
