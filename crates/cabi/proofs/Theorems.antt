@@ -1,6 +1,6 @@
 -- WHAT C CAN TELL: a struct tells every refusal from every other and from none, what was read can be handed in again as it stands, and a writer's
 -- contract allows one answer and one buffer. (The contract of every other call says what its answer is.) Assumes nothing.
-use mathlib.Core.Path.{_≡_, refl, sym, ap, _∙_}
+use mathlib.Core.Path.{_≡_, refl, ap, _∙_}
 use Prim.Native.Nat.{ℕ, _≤_}
 use native.Mathlib.Omega.{arith}
 use mathlib.Core.List.{List, [], _∷_}
