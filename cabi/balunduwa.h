@@ -1,7 +1,7 @@
 /* Balunduwa for C: the codec and the walk of a CFDP journal, as a static library for x86-64.
  *
- * Every function is proved, in crates/cabi, to answer what document 01 says for all arguments; this header and the compiler that
- * reads it are not part of that proof.
+ * Every function is proved, in crates/cabi, to answer what document 01 says, for all arguments, and where it is silent what docs/DECISIONS.md
+ * says; this header and the compiler that reads it are not part of that proof.
  *
  * An answer is a struct by value. It begins with a refusal: number 0 where there is none, else document 01's number from 1 to 15, with
  * the refusal's values in its order and 0 for each value that it does not carry. Behind it stands what the call gives, which is 0
@@ -33,7 +33,8 @@ typedef struct {
     size_t len;
 } balunduwa_span;
 
-/* What a writer answers: how many bytes it wrote. To learn how many are needed, write to 0 bytes: refusal 2 carries 0 and their number. */
+/* What a writer answers: how many bytes it wrote. To learn how many are needed, write to 0 bytes: refusal 2 carries 0 and their number. (Not of an
+ * entity ID, which needs 2 and its width: of fewer than 2 bytes its refusal 2 carries 2.) */
 typedef struct {
     balunduwa_refusal refusal;
     size_t bytes;
@@ -108,7 +109,8 @@ typedef struct {
     balunduwa_response response;
 } balunduwa_response_answer;
 
-/* The request or response at the front of buf: 1, 3, 1, then 7, 1 or 6. Strict, after those: 11 (requests), 12, 13 (responses). */
+/* The request or response at the front of buf: 1, 3, 1; then of the value 1, 7, and of its names and message 1 or 6. Strict, after those: 11
+ * (requests), 12, 13 (responses). */
 balunduwa_request_answer balunduwa_request_read(const uint8_t *buf, size_t buf_len);
 balunduwa_request_answer balunduwa_request_read_strict(const uint8_t *buf, size_t buf_len);
 balunduwa_response_answer balunduwa_response_read(const uint8_t *buf, size_t buf_len);
