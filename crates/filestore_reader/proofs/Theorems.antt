@@ -1,22 +1,23 @@
 -- WHAT READING MEANS, for requests and responses at once: what is found selects the meaning whose layout stands there, may be written again, and
 -- what was written is found again. Assumes nothing.
 use mathlib.Core.Path.{_≡_, refl, sym, ap, subst, _∙_}
-use Prim.Native.Nat.{ℕ, suc, _+_, _*_, _≤_, _<_}
+use Prim.Native.Nat.{ℕ, suc, _+_, _*_, _/_, _≤_, _<_}
 use native.Mathlib.Omega.{arith}
 use mathlib.Core.Bool.{Bool, true, false}
 use mathlib.Core.Option.{Option, some, none}
 use mathlib.Core.List.{List, [], _∷_, _++_, append-assoc, append-nil}
 use lib.ListN.{length, drop, length-append}
-use Rattle.bluebook.specs.Layouts.{Octets, secondPresent, there, lv, lvIf, tlv}
-use Rattle.refusal.specs.Answer.{Answer, gives, mapA, andThen, limitTest}
+use lib.Dec.{ltb}
+use Rattle.bluebook.specs.Layouts.{Octets, actions, secondPresent, there, lv, lvIf, tlv}
+use Rattle.refusal.specs.Answer.{Answer, gives, mapA, andThen, RefusedBy, limitTest}
 use Rattle.refusal.specs.Reader.{Took, took, Exactly}
-use Rattle.refusal.proofs.Laws.{also-both, pick-passed, limit-passed, mapped-by, mapA-mapA}
+use Rattle.refusal.proofs.Laws.{also-both, pick-passed, refused-pick, refused-map, refused-then, limit-passed, mapped-by, mapA-mapA}
 use Rattle.refusal.proofs.Once.{refusalOf-refused, untold, one-told}
 use Rattle.refusal.proofs.Readers.{exactly-tested}
 use Rattle.splice.specs.Writing.{Wrote}
 use Rattle.splice.proofs.Writing.{left-by}
-use Rattle.lv.specs.Rules.{span, partOf}
-use Rattle.lv.proofs.Laws.{spanTest-in}
+use Rattle.lv.specs.Rules.{span, partOf, takeLv}
+use Rattle.lv.proofs.Laws.{spanTest-in, takeLv-refusals}
 use Rattle.lv.proofs.Theorems.{selects, octets-front}
 use Rattle.tlv.proofs.Theorems.{exactly-of}
 use Rattle.action.specs.Rules.{codeOf, dueOf}
@@ -27,7 +28,7 @@ use Rattle.filestore_base.specs.Rules.{spanIf, lenOf, writeTest, writeBase, sam
 use Rattle.filestore_base.specs.declared.FilestoreTlvBase.{FilestoreTlvBase}
 use Rattle.filestore_base.proofs.Laws.{Spans, there-if, length-value, writable, write-passed}
 use Rattle.filestore_base.proofs.Theorems.{Buildable, builds, same-means}
-use Rattle.filestore_reader.specs.Rules.{takeValue, takeFiled, takeStrict, foundOf, found, readBase, lowBitsTest, leftTest, statusListed, listedTest, strictTest}
+use Rattle.filestore_reader.specs.Rules.{takeOctet, takeIf, takeSecond, takeValue, takeFiled, takeStrict, foundOf, found, readBase, lowBitsTest, leftTest, statusListed, listedTest, strictTest}
 use Rattle.filestore_reader.specs.Told.{toldFound}
 use Rattle.filestore_reader.specs.declared.Found.{Found}
 use Rattle.filestore_reader.specs.declared.FoundRead.{FoundRead}
@@ -240,6 +241,33 @@ read-alone response v rest =
     ap (λ (a : Answer (Took (List ℕ))). mapA (λ t. found (t .got)) (andThen a (λ f. mapA (λ t. took t (f .rest)) (takeValue response (f .got)))))
     (exactly-of (kindOf response) .accepts v rest tt)
     ∙ mapA-mapA (λ (t : Took (Took Filed)). found (t .got)) (λ t. took t rest) (takeValue response v)
+
+-- ---- THE REFUSALS OF A VALUE are 1, 6 and 7
+
+module _ (P : ℕ → Type 0) (one : P 1) where
+  if-refusals : (wanted : Bool) (bs : List ℕ) → RefusedBy P (takeIf wanted bs)
+  unfolding takeIf
+  if-refusals false bs = tt
+  if-refusals true bs = refused-map P _ (takeLv bs) (takeLv-refusals P one bs)
+
+  second-refusals : P 6 → (due : Bool) (bs : List ℕ) → RefusedBy P (takeSecond due bs)
+  unfolding takeSecond
+  second-refusals six false bs = if-refusals false bs
+  second-refusals six true [] = six
+  second-refusals six true (x ∷ bs) = if-refusals true (x ∷ bs)
+
+  octet-refusals : P 7 → (bs : List ℕ) → RefusedBy P (takeOctet bs)
+  unfolding takeOctet
+  octet-refusals seven [] = one
+  octet-refusals seven (o ∷ bs) = refused-pick P (ltb (o / 16) (length actions)) _ _ tt seven
+
+  pub value-refusals : P 6 → P 7 → (response : Bool) (v : List ℕ) → RefusedBy P (takeValue response v)
+  unfolding takeValue
+  value-refusals six seven response v =
+      refused-then P (takeOctet v) _ (octet-refusals seven v) (λ o.
+      refused-then P (takeLv (o .rest)) _ (takeLv-refusals P one (o .rest)) (λ f.
+      refused-then P (takeSecond (secondPresent (o .got .action)) (f .rest)) _ (second-refusals six (secondPresent (o .got .action)) (f .rest)) (λ s.
+      refused-map P _ (takeIf response (s .rest)) (if-refusals response (s .rest)))))
 
 -- ---- ONE ANSWER: of `from_bytes` and `from_bytes_strict`
 

@@ -9,9 +9,9 @@ use lib.Seq.{length-take-le, take-length, slice, slice-cons, length-slice}
 use lib.Dec.{leb}
 use borrow.Author.Tests.{le-leb, lt-leb, leb-true}
 use Rattle.bluebook.specs.Layouts.{lv}
-use Rattle.refusal.specs.Answer.{Answer, gives, refuses, mapA, also, placeTest}
+use Rattle.refusal.specs.Answer.{Answer, gives, refuses, mapA, also, RefusedBy, placeTest}
 use Rattle.refusal.specs.Reader.{took}
-use Rattle.refusal.proofs.Laws.{also-passed, also-refused, also-both, pick-passed, limit-in, limit-over, limit-passed, placeTest-in, placeTest-out, placeTest-passed}
+use Rattle.refusal.proofs.Laws.{also-passed, also-refused, also-both, pick-passed, refused-pick, limit-in, limit-over, limit-passed, placeTest-in, placeTest-out, placeTest-passed}
 use Rattle.splice.specs.Laid.{laid, sameBytes}
 use Rattle.splice.specs.Writing.{roomAt, Wrote}
 use Rattle.splice.proofs.Laws.{laid-cons}
@@ -90,6 +90,12 @@ takeLv-short x bs k = simp (lt-leb x (length bs) k)
 pub takeLv-whole : (x : ℕ) (bs : List ℕ) → x ≤ length bs → takeLv (x ∷ bs) ≡ gives (took (take x bs) (drop x bs))
 unfolding takeLv
 takeLv-whole x bs k = simp (le-leb x (length bs) k)
+
+-- its only refusal is 1
+pub takeLv-refusals : (P : ℕ → Type 0) → P 1 → (bs : List ℕ) → RefusedBy P (takeLv bs)
+unfolding takeLv
+takeLv-refusals P one [] = one
+takeLv-refusals P one (len ∷ bs) = refused-pick P (leb len (length bs)) _ _ tt one
 
 -- ---- reading at a place
 
