@@ -12,9 +12,10 @@ use Rattle.refusal.proofs.Once.{one-is, refusalOf, refusalOf-refused}
 use Rattle.action.proofs.Laws.{action-back}
 use Rattle.filestore_base.specs.declared.SecondName.{SecondName}
 use Rattle.filestore_base.specs.declared.SecondName.the-variants.{There, Absent}
-use Rattle.filestore.specs.Rules.{requestOf as aRequest, responseOf as aResponse}
-use Rattle.filestore.specs.declared.FilestoreRequestTlv.{FilestoreRequestTlv}
-use Rattle.filestore.specs.declared.FilestoreResponseTlv.{FilestoreResponseTlv}
+use Rattle.filestore_request.specs.Rules.{requestOf as aRequest}
+use Rattle.filestore_request.specs.declared.FilestoreRequestTlv.{FilestoreRequestTlv}
+use Rattle.filestore_response.specs.Rules.{responseOf as aResponse}
+use Rattle.filestore_response.specs.declared.FilestoreResponseTlv.{FilestoreResponseTlv}
 use Rattle.cabi.specs.Boundary.{numbered, hasSecond, secondSpan, requestOf, responseOf, Sent, secondIn, requestIn, responseIn, requestGiven, responseGiven}
 use Rattle.cabi.specs.declared.Numbered.{Numbered}
 use Rattle.cabi.specs.declared.WrittenAnswer.{WrittenAnswer}

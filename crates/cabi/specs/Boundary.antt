@@ -20,9 +20,10 @@ use Rattle.action.specs.declared.FilestoreActionCode.the-variants.{CreateFile}
 use Rattle.filestore_base.specs.Rules.{writeBase}
 use Rattle.filestore_base.specs.declared.SecondName.{SecondName}
 use Rattle.filestore_base.specs.declared.SecondName.the-variants.{There, Absent}
-use Rattle.filestore.specs.Rules.{requestOf as aRequest, requestBase, responseOf as aResponse, responseBase}
-use Rattle.filestore.specs.declared.FilestoreRequestTlv.{FilestoreRequestTlv}
-use Rattle.filestore.specs.declared.FilestoreResponseTlv.{FilestoreResponseTlv}
+use Rattle.filestore_request.specs.Rules.{requestOf as aRequest, requestBase}
+use Rattle.filestore_request.specs.declared.FilestoreRequestTlv.{FilestoreRequestTlv}
+use Rattle.filestore_response.specs.Rules.{responseOf as aResponse, responseBase}
+use Rattle.filestore_response.specs.declared.FilestoreResponseTlv.{FilestoreResponseTlv}
 use Rattle.walk.specs.Rules.{Standing, found, ended, Summed}
 use Rattle.walk.specs.declared.End.{End}
 use Rattle.walk.specs.declared.End.the-variants.{Whole, Cut}

@@ -4,14 +4,15 @@ use crate::Response;
 use crate::Span;
 use action::ActionCodeRead;
 use action::FilestoreActionCode;
-use filestore::FilestoreRequestRead;
-use filestore::FilestoreRequestTlv;
-use filestore::FilestoreResponseRead;
-use filestore::FilestoreResponseTlv;
 use filestore_base::SecondName;
+use filestore_request::FilestoreRequestRead;
+use filestore_request::FilestoreRequestTlv;
+use filestore_response::FilestoreResponseRead;
+use filestore_response::FilestoreResponseTlv;
 use lv::Lv;
 ghost use mathlib.Core.Path.{_≡_};
-ghost use Rattle.filestore.specs.Told.{toldRequest, toldResponse};
+ghost use Rattle.filestore_request.specs.Told.{toldRequest};
+ghost use Rattle.filestore_response.specs.Told.{toldResponse};
 ghost use Rattle.cabi.specs.Boundary.{secondIn, requestGiven, responseGiven};
 
 fn second(there: u8, s: Span) -> SecondName

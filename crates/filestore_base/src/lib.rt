@@ -1,6 +1,6 @@
 // What a filestore request and a filestore response have in common: an action, its names, four low bits, and a message or none.
 // A port of FilestoreTlvBase of src/cfdp/tlv/mod.rs of spacepackets 0.19.0 and of what both TLVs share, changed: spans for slices, numbered
-// answers, and one test and one writer for both. The crate filestore_reader reads them, and filestore has the TLVs themselves.
+// answers, and one test and one writer for both. The crate filestore_reader reads them; filestore_request and filestore_response have the TLVs.
 use action::FilestoreActionCode;
 use lv::Lv;
 use refusal::Checked;

@@ -1,3 +1,4 @@
 pub mod Exact
 pub mod Laws
+pub mod Said
 pub mod Theorems

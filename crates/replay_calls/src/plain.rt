@@ -2,8 +2,8 @@
 use crate::Words;
 use crate::names;
 use crate::values;
-use filestore::FilestoreResponseTlv;
 use filestore_base::SecondName;
+use filestore_response::FilestoreResponseTlv;
 use tlv::StandardType;
 use tlv::TlvTypeField;
 

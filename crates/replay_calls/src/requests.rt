@@ -2,10 +2,10 @@
 use crate::Words;
 use crate::names;
 use crate::values;
-use filestore::FilestoreRequestRead;
-use filestore::FilestoreRequestTlv;
-use filestore::FilestoreResponseRead;
-use filestore::FilestoreResponseTlv;
+use filestore_request::FilestoreRequestRead;
+use filestore_request::FilestoreRequestTlv;
+use filestore_response::FilestoreResponseRead;
+use filestore_response::FilestoreResponseTlv;
 use lv::Lv;
 
 fn built(q: FilestoreRequestTlv) -> FilestoreRequestRead {

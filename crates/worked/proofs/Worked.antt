@@ -8,7 +8,8 @@ use Rattle.tlv.specs.Rules.{takeTlv, readTlv, takeOf}
 use Rattle.entity_id.specs.Rules.{widthOk, widthTest, headTest, typeTest, valueTest, takeEntity, readEntity}
 use Rattle.action.specs.Rules.{actionAt}
 use Rattle.filestore_reader.specs.Rules.{takeOctet, takeIf, takeSecond, takeValue, readBase, statusListed, listedTest, strictBase}
-use Rattle.filestore.specs.Rules.{readRequest, strictRequest, readResponse, strictResponse}
+use Rattle.filestore_request.specs.Rules.{readRequest, strictRequest}
+use Rattle.filestore_response.specs.Rules.{readResponse, strictResponse}
 use Rattle.walk.specs.Journal.{walkOn, walk}
 use Rattle.walk.specs.Rules.{front, stepAt, summaryOf}
 use Rattle.worked.specs.Calls.{Given, rule, said, answerOf}

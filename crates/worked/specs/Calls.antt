@@ -12,9 +12,10 @@ use Rattle.entity_id.specs.Rules.{readEntity}
 use Rattle.action.specs.declared.FilestoreActionCode.{FilestoreActionCode}
 use Rattle.filestore_base.specs.declared.SecondName.{SecondName}
 use Rattle.filestore_base.specs.declared.SecondName.the-variants.{There, Absent}
-use Rattle.filestore.specs.Rules.{readRequest, strictRequest, readResponse, strictResponse}
-use Rattle.filestore.specs.declared.FilestoreRequestTlv.{FilestoreRequestTlv}
-use Rattle.filestore.specs.declared.FilestoreResponseTlv.{FilestoreResponseTlv}
+use Rattle.filestore_request.specs.Rules.{readRequest, strictRequest}
+use Rattle.filestore_request.specs.declared.FilestoreRequestTlv.{FilestoreRequestTlv}
+use Rattle.filestore_response.specs.Rules.{readResponse, strictResponse}
+use Rattle.filestore_response.specs.declared.FilestoreResponseTlv.{FilestoreResponseTlv}
 use Rattle.walk.specs.Rules.{Standing, found, ended, Summed, stepAt, summaryOf}
 use Rattle.walk.specs.declared.End.{End}
 

@@ -3,8 +3,8 @@ use mathlib.Core.Path.{sym, ap, _∙_}
 use denote.Ref.{now}
 use lib.ListN.{length}
 use Rattle.filestore_base.specs.Rules.{writeBase}
-use Rattle.filestore.specs.Rules.{requestBase}
-use Rattle.filestore.specs.Told.{toldRequest}
+use Rattle.filestore_request.specs.Rules.{requestBase}
+use Rattle.filestore_request.specs.Told.{toldRequest}
 use Rattle.cabi.proofs.Laws.{sent, unsent, given, ungiven}
 use borrow.Author.Needs.{needs}
 use Rattle.cabi.proofs.balunduwa_request_write.Statement.{statement}

@@ -3,8 +3,8 @@ use mathlib.Core.Path.{sym, ap, _∙_}
 use denote.Ref.{now}
 use lib.ListN.{length}
 use Rattle.filestore_base.specs.Rules.{writeBase}
-use Rattle.filestore.specs.Rules.{responseBase}
-use Rattle.filestore.specs.Told.{toldResponse}
+use Rattle.filestore_response.specs.Rules.{responseBase}
+use Rattle.filestore_response.specs.Told.{toldResponse}
 use Rattle.cabi.proofs.Laws.{sent, unsent, given, ungiven}
 use borrow.Author.Needs.{needs}
 use Rattle.cabi.proofs.balunduwa_response_write.Statement.{statement}

@@ -1,6 +1,6 @@
 -- `cabi::answers::request` meets its contract: each case crosses as it is told. Assumes nothing.
 use mathlib.Core.Path.{ap, _∙_}
-use Rattle.filestore.specs.Told.{toldRequest}
+use Rattle.filestore_request.specs.Told.{toldRequest}
 use Rattle.cabi.specs.Boundary.{requested, requestOut, noRequest}
 use Rattle.cabi.specs.declared.Request.{Request}
 use Rattle.cabi.proofs.Laws.{told-out}

@@ -1,6 +1,6 @@
 -- `cabi::answers::response` meets its contract: each case crosses as it is told. Assumes nothing.
 use mathlib.Core.Path.{ap, _∙_}
-use Rattle.filestore.specs.Told.{toldResponse}
+use Rattle.filestore_response.specs.Told.{toldResponse}
 use Rattle.cabi.specs.Boundary.{responded, responseOut, noResponse}
 use Rattle.cabi.specs.declared.Response.{Response}
 use Rattle.cabi.proofs.Laws.{told-out}

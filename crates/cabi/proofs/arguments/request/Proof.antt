@@ -3,7 +3,7 @@ use mathlib.Core.Path.{sym, ap, _∙_}
 use Rattle.refusal.specs.Answer.{gives, mapA}
 use Rattle.action.specs.Told.{toldAction}
 use Rattle.filestore_base.specs.declared.SecondName.{SecondName}
-use Rattle.filestore.specs.Rules.{requestOf}
+use Rattle.filestore_request.specs.Rules.{requestOf}
 use Rattle.cabi.specs.Boundary.{spanIn, requestIn}
 use borrow.Author.Needs.{needs}
 use Rattle.cabi.proofs.arguments.request.Statement.{statement}

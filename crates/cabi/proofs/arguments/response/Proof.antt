@@ -3,7 +3,7 @@ use mathlib.Core.Path.{sym, ap, _∙_}
 use Rattle.refusal.specs.Answer.{gives, mapA}
 use Rattle.action.specs.Told.{toldAction}
 use Rattle.filestore_base.specs.declared.SecondName.{SecondName}
-use Rattle.filestore.specs.Rules.{responseOf}
+use Rattle.filestore_response.specs.Rules.{responseOf}
 use Rattle.cabi.specs.Boundary.{spanIn, responseIn}
 use borrow.Author.Needs.{needs}
 use Rattle.cabi.proofs.arguments.response.Statement.{statement}
