@@ -2,6 +2,7 @@
 use mathlib.Core.Path.{_≡_, refl, sym, ap, subst, _∙_}
 use Prim.Native.Nat.{ℕ, suc, _+_, _-_, _≤_, _<_}
 use native.Mathlib.Omega.{arith}
+use native.Mathlib.Nat.{sub-zero}
 use native.Mathlib.Numerals.{add-one}
 use mathlib.Core.List.{List, [], _∷_}
 use lib.ListN.{length, take, drop, getD, set, length-drop}
@@ -11,11 +12,11 @@ use borrow.Author.Tests.{le-leb, lt-leb, leb-true}
 use Rattle.bluebook.specs.Layouts.{lv}
 use Rattle.refusal.specs.Answer.{Answer, gives, refuses, mapA, also, RefusedBy, placeTest}
 use Rattle.refusal.specs.Reader.{took}
-use Rattle.refusal.proofs.Laws.{also-passed, also-refused, also-both, pick-passed, refused-pick, limit-in, limit-over, limit-passed, placeTest-in, placeTest-out, placeTest-passed}
+use Rattle.refusal.proofs.Laws.{also-passed, also-refused, also-both, also-assoc, pick-passed, refused-pick, limit-in, limit-over, limit-passed, placeTest-in, placeTest-out, placeTest-passed}
 use Rattle.splice.specs.Laid.{laid, sameBytes}
-use Rattle.splice.specs.Writing.{roomAt, Wrote}
+use Rattle.splice.specs.Writing.{roomFor, Wrote}
 use Rattle.splice.proofs.Laws.{laid-cons}
-use Rattle.splice.proofs.Writing.{roomFor-in, roomFor-out, roomAt-past, roomAt-there, roomAt-front, wrote, wrote-not, wrote-refused, wrote-passed, wrote-laid}
+use Rattle.splice.proofs.Writing.{roomFor-in, roomFor-out, roomAt-there, wrote, wrote-not, wrote-refused, wrote-passed, wrote-laid}
 use Rattle.lv.specs.Rules.{span, partOf, spanTest, sizeTest, newLv, lenFull, takeLv, readLv, readLvAt, writeTest, writeLv, writeLvAt, sameLv}
 use Rattle.lv.specs.declared.Lv.{Lv}
 
@@ -173,40 +174,48 @@ writeTest-passed l src h k = sym (writeTest-is l src ∙ rw (sizeTest-in l h, sp
 
 -- the writer to a slice is the writer at its front
 pub writeLvAt-front : (l : Lv) (src : List ℕ) (n : ℕ) → writeLvAt l src 0 n ≡ writeLv l src n
-unfolding writeLv writeLvAt
-writeLvAt-front l src n = ap (also (writeTest l src)) (roomAt-front n (lv (partOf l src)))
+unfolding writeTest writeLv writeLvAt
+writeLvAt-front l src n = rw (placeTest-in 0 n (omega arith), sub-zero n) (sym (also-assoc (sizeTest l) (spanTest l src) _))
+
+-- where it may be written and the place is there, the room decides
+pub writeLvAt-there : (l : Lv) (src : List ℕ) (at n : ℕ) → gives tt ≡ writeTest l src → at ≤ n → writeLvAt l src at n ≡ roomFor (n - at) (lv (partOf l src))
+unfolding writeLvAt
+writeLvAt-there l src at n fine there =
+    let b = also-both (sizeTest l) (spanTest l src) tt (fine ∙ writeTest-is l src) in
+    rw (← b .0, placeTest-in at n there, ← b .1)
 
 module _ (l : Lv) (src old : List ℕ) (at : ℕ) where
-  pub writeLvAt-refused : (n : ℕ) (vs : List ℕ) → refuses n vs ≡ writeTest l src → Wrote at (writeLvAt l src at (length old)) (refuses n vs) old old
+  pub writeLvAt-size : (n : ℕ) (vs : List ℕ) → refuses n vs ≡ sizeTest l → Wrote at (writeLvAt l src at (length old)) (refuses n vs) old old
   unfolding writeLvAt
-  writeLvAt-refused n vs e = wrote-refused at old (writeTest l src) _ n vs e
+  writeLvAt-size n vs e = wrote-refused at old (sizeTest l) _ n vs e
 
-  module _ (fine : gives tt ≡ writeTest l src) where
+  module _ (small : gives tt ≡ sizeTest l) where
     pub writeLvAt-past : length old < at → Wrote at (writeLvAt l src at (length old)) (refuses 15 (at ∷ [])) old old
     unfolding writeLvAt
-    writeLvAt-past h = wrote-passed fine (wrote-not at old _ 15 (at ∷ []) (sym (roomAt-past at (length old) _ h)))
+    writeLvAt-past h = wrote-passed small (wrote-refused at old (placeTest at (length old)) _ 15 (at ∷ []) (sym (placeTest-out at (length old) h)))
 
-    module _ (v : List ℕ) (part : v ≡ partOf l src) (there : at ≤ length old) where
-      pub writeLvAt-small : length old - at < length v + 1 → Wrote at (writeLvAt l src at (length old)) (refuses 2 ((length old - at) ∷ (length v + 1) ∷ [])) old old
-      unfolding writeLvAt
-      writeLvAt-small h =
-          wrote-passed fine
-          (wrote-not at old _ 2 ((length old - at) ∷ (length v + 1) ∷ [])
-          (sym (roomAt-there at (length old) _ there ∙ rw (← part) (roomFor-out (length old - at) (lv v) (omega (arith, add-one (length v))) ∙ rw add-one))))
+    pub writeLvAt-span : at ≤ length old → (n : ℕ) (vs : List ℕ) → refuses n vs ≡ spanTest l src → Wrote at (writeLvAt l src at (length old)) (refuses n vs) old old
+    unfolding writeLvAt
+    writeLvAt-span h n vs e = wrote-passed small (wrote-passed (sym (placeTest-in at (length old) h)) (wrote-refused at old (spanTest l src) _ n vs e))
 
-      pub writeLvAt-room : (new : List ℕ) → length v + 1 ≤ length old - at → new ≡ laid (at + 1) v (set old at (length v)) → Wrote at (writeLvAt l src at (length old)) (gives (length v + 1)) old new
-      unfolding writeLvAt
-      writeLvAt-room new h e =
-          wrote-passed fine
-          (wrote at old _ (lv v) new (length v + 1) (roomAt-there at (length old) _ there ∙ rw (← part) (roomFor-in (length old - at) (lv v) (omega arith))) (add-one (length v)) (e ∙ laid-cons at (length v) v old (omega arith)))
+  module _ (fine : gives tt ≡ writeTest l src) (there : at ≤ length old) (v : List ℕ) (part : v ≡ partOf l src) where
+    pub writeLvAt-small : length old - at < length v + 1 → Wrote at (writeLvAt l src at (length old)) (refuses 2 ((length old - at) ∷ (length v + 1) ∷ [])) old old
+    writeLvAt-small h =
+        wrote-not at old _ 2 ((length old - at) ∷ (length v + 1) ∷ [])
+        (sym (writeLvAt-there l src at (length old) fine there ∙ rw (← part) (roomFor-out (length old - at) (lv v) (omega (arith, add-one (length v))) ∙ rw add-one)))
+
+    pub writeLvAt-room : (new : List ℕ) → length v + 1 ≤ length old - at → new ≡ laid (at + 1) v (set old at (length v)) → Wrote at (writeLvAt l src at (length old)) (gives (length v + 1)) old new
+    writeLvAt-room new h e =
+        wrote at old _ (lv v) new (length v + 1) (writeLvAt-there l src at (length old) fine there ∙ rw (← part) (roomFor-in (length old - at) (lv v) (omega arith))) (add-one (length v))
+        (e ∙ laid-cons at (length v) v old (omega arith))
 
 -- for a writer above: where the span may be written and there is room, the LV is laid
 pub writeLvAt-laid : (l : Lv) (src old new : List ℕ) (at : ℕ) {told : Answer ℕ} → gives tt ≡ writeTest l src → at + (l .len + 1) ≤ length old
     → Wrote at (writeLvAt l src at (length old)) told old new → new ≡ laid at (lv (partOf l src)) old
-unfolding writeLvAt
 writeLvAt-laid l src old new at {told} fine h w =
     wrote-laid at (lv (partOf l src)) old new (omega (arith, sound l src fine .size))
-    (subst (λ (x : Answer (List ℕ)). Wrote at x told old new) (also-passed (writeTest l src) (roomAt at (length old) (lv (partOf l src))) fine) w)
+    (subst (λ (x : Answer (List ℕ)). Wrote at x told old new)
+    (writeLvAt-there l src at (length old) fine (omega arith) ∙ sym (roomAt-there at (length old) (lv (partOf l src)) (omega arith))) w)
 
 -- ---- comparing
 

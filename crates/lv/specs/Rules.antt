@@ -1,5 +1,5 @@
 -- What each call on an LV answers, for all arguments (document 01: module 1, and its rules of spans and places).
-use Prim.Native.Nat.{ℕ, _+_}
+use Prim.Native.Nat.{ℕ, _+_, _-_}
 use mathlib.Core.Bool.{Bool}
 use mathlib.Core.List.{List, [], _∷_}
 use lib.ListN.{length, take, drop}
@@ -9,7 +9,7 @@ use Rattle.bluebook.specs.Layouts.{lv}
 use Rattle.refusal.specs.Answer.{Answer, gives, refuses, pick, mapA, also, Test, limitTest, placeTest}
 use Rattle.refusal.specs.Reader.{Reader, took}
 use Rattle.splice.specs.Laid.{sameBytes}
-use Rattle.splice.specs.Writing.{roomFor, roomAt}
+use Rattle.splice.specs.Writing.{roomFor}
 use Rattle.lv.specs.declared.Lv.{Lv}
 
 abbrev pub span : ℕ → ℕ → Lv
@@ -61,9 +61,9 @@ writeTest l src = also (sizeTest l) (spanTest l src)
 unfoldable pub writeLv : Lv → List ℕ → ℕ → Answer (List ℕ)
 writeLv l src n = also (writeTest l src) (roomFor n (lv (partOf l src)))
 
--- the same from the place `at` on: 15 where it is past the end, then 2, counted from there
+-- the same from the place `at` on: 4, then 15 for the place, then 15 for the span, then 2, counted from the place
 unfoldable pub writeLvAt : Lv → List ℕ → ℕ → ℕ → Answer (List ℕ)
-writeLvAt l src at n = also (writeTest l src) (roomAt at n (lv (partOf l src)))
+writeLvAt l src at n = also (sizeTest l) (also (placeTest at n) (also (spanTest l src) (roomFor (n - at) (lv (partOf l src)))))
 
 -- ---- COMPARING: 15 for the first span, then for the second; then whether the values are the same
 

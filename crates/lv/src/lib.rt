@@ -135,16 +135,20 @@ impl Lv {
         self.write_at(src, buf, 0)
     }
 
-    // Writes the LV to buf from the place at on. 4, 15 for the span, 15 for the place, then 2, counted from the place.
+    // Writes the LV to buf from the place at on. 4, 15 for the place, 15 for the span, then 2, counted from the place.
     pub fn write_at(self, src: &[u8], buf: &mut [u8], at: usize) -> Written
         ensures { λ r. ⌜ Wrote at (writeLvAt self (now (src .entry)) at (length (now (buf .entry)))) (toldWritten r) (now (buf .entry)) (now (buf .exit)) ⌝ }
     {
-        let test = self.write_test(src);
-        if let Checked::Refused(r) = test {
+        let size = self.size_test();
+        if let Checked::Refused(r) = size {
             return Written::Refused(r);
         }
         if buf.len() < at {
             return Written::Refused(Refusal::PlacePastEnd(at));
+        }
+        let span = self.span_test(src);
+        if let Checked::Refused(r) = span {
+            return Written::Refused(r);
         }
         let v = self.value(src);
         let found = buf.len() - at;

@@ -2,7 +2,6 @@
 use mathlib.Core.Path.{_≡_, refl, sym, ap, _∙_}
 use Prim.Native.Nat.{ℕ, _+_, _-_, _≤_, _<_}
 use native.Mathlib.Omega.{arith}
-use native.Mathlib.Nat.{sub-zero}
 use mathlib.Core.Logic.{_↔_}
 use mathlib.Core.Bool.{Bool, true, false}
 use mathlib.Core.List.{List, [], _∷_, _++_}
@@ -35,10 +34,6 @@ roomAt-past at n bs h = rw (placeTest-out at n h)
 pub roomAt-there : (at n : ℕ) (bs : List ℕ) → at ≤ n → roomAt at n bs ≡ roomFor (n - at) bs
 unfolding roomAt
 roomAt-there at n bs h = rw (placeTest-in at n h)
-
--- from the front on, the whole buffer counts
-pub roomAt-front : (n : ℕ) (bs : List ℕ) → roomAt 0 n bs ≡ roomFor n bs
-roomAt-front n bs = roomAt-there 0 n bs (omega arith) ∙ rw sub-zero
 
 -- ---- a writer that tests, sees to the room, and lays its bytes down
 
