@@ -248,16 +248,16 @@ impl EntityIdTlv {
         TlvTypeField::Standard(TlvType::EntityId)
     }
 
-    pub fn tlv_type(self) -> StandardType
-        ensures { λ r. ⌜ r ≡ typeOf label ⌝ }
-    {
-        StandardType::There(TlvType::EntityId)
-    }
-
     pub fn is_standard_tlv(self) -> bool
         ensures { λ r. ⌜ r ≡ isStandard label ⌝ }
     {
         true
+    }
+
+    pub fn tlv_type(self) -> StandardType
+        ensures { λ r. ⌜ r ≡ typeOf label ⌝ }
+    {
+        StandardType::There(TlvType::EntityId)
     }
 
     // The entity ID of a generic TLV whose value lies in buf. 3, 5, then 15.

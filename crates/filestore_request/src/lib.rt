@@ -245,16 +245,16 @@ impl FilestoreRequestTlv {
         TlvTypeField::Standard(TlvType::FilestoreRequest)
     }
 
-    pub fn tlv_type(self) -> StandardType
-        ensures { λ r. ⌜ r ≡ StandardType.There TlvType.FilestoreRequest ⌝ }
-    {
-        StandardType::There(TlvType::FilestoreRequest)
-    }
-
     pub fn is_standard_tlv(self) -> bool
         ensures { λ r. ⌜ r ≡ true ⌝ }
     {
         true
+    }
+
+    pub fn tlv_type(self) -> StandardType
+        ensures { λ r. ⌜ r ≡ StandardType.There TlvType.FilestoreRequest ⌝ }
+    {
+        StandardType::There(TlvType::FilestoreRequest)
     }
 
     // Whether two requests have the same action and the same names, each in its own buffer. 15 for the first span that passes its buffer's end.

@@ -218,16 +218,16 @@ impl FilestoreResponseTlv {
         TlvTypeField::Standard(TlvType::FilestoreResponse)
     }
 
-    pub fn tlv_type(self) -> StandardType
-        ensures { λ r. ⌜ r ≡ StandardType.There TlvType.FilestoreResponse ⌝ }
-    {
-        StandardType::There(TlvType::FilestoreResponse)
-    }
-
     pub fn is_standard_tlv(self) -> bool
         ensures { λ r. ⌜ r ≡ true ⌝ }
     {
         true
+    }
+
+    pub fn tlv_type(self) -> StandardType
+        ensures { λ r. ⌜ r ≡ StandardType.There TlvType.FilestoreResponse ⌝ }
+    {
+        StandardType::There(TlvType::FilestoreResponse)
     }
 
     // Whether two responses have the same action, status, names and message, each in its own buffer. 15 for the first span that passes its

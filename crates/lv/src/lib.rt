@@ -180,8 +180,8 @@ impl Lv {
             return LvRead::Refused(Refusal::PlacePastEnd(at));
         }
         let found = end - at;
-        if found < 1 {
-            return short(found, 1);
+        if found < Lv::MIN_LEN {
+            return short(found, Lv::MIN_LEN);
         }
         let len = buf[at] as usize;
         if found < len + 1 {
