@@ -1,7 +1,7 @@
 -- WHAT READING MEANS, for requests and responses at once: what is found selects the meaning whose layout stands there, may be written again, and
 -- what was written is found again. Assumes nothing.
 use mathlib.Core.Path.{_≡_, refl, sym, ap, subst, _∙_}
-use Prim.Native.Nat.{ℕ, suc, _+_, _*_, _/_, _≤_, _<_}
+use Prim.Native.Nat.{ℕ, _+_, _*_, _/_, _≤_, _<_}
 use native.Mathlib.Omega.{arith}
 use mathlib.Core.Bool.{Bool, true, false}
 use mathlib.Core.Option.{Option, some, none}
@@ -18,12 +18,12 @@ use Rattle.splice.specs.Writing.{Wrote}
 use Rattle.splice.proofs.Writing.{left-by}
 use Rattle.lv.specs.Rules.{span, partOf, takeLv}
 use Rattle.lv.proofs.Laws.{spanTest-in, takeLv-refusals}
-use Rattle.lv.proofs.Theorems.{selects, octets-front}
+use Rattle.lv.proofs.Theorems.{selects}
 use Rattle.tlv.proofs.Theorems.{exactly-of}
 use Rattle.action.specs.Rules.{codeOf, dueOf}
 use Rattle.action.specs.declared.FilestoreActionCode.{FilestoreActionCode}
 use Rattle.action.proofs.Laws.{code-back, code-known}
-use Rattle.filestore_base.specs.Meaning.{Filed, filed, isThere, partIf, kindOf, partsOf, valueOf, filedTlv, meaning, secondAt, placed}
+use Rattle.filestore_base.specs.Meaning.{Filed, filed, isThere, partIf, kindOf, valueOf, filedTlv, meaning, secondAt, placed}
 use Rattle.filestore_base.specs.Rules.{spanIf, lenOf, writeTest, writeBase, sameBase}
 use Rattle.filestore_base.specs.declared.FilestoreTlvBase.{FilestoreTlvBase}
 use Rattle.filestore_base.proofs.Laws.{Spans, there-if, length-value, writable, write-passed}
@@ -183,13 +183,6 @@ read-writable d bs f o e =
   where
     due-of : (a : FilestoreActionCode) (n : ℕ) → codeOf a ≡ n → dueOf a ≡ secondPresent n
     due-of a n e = ap secondPresent e
-
--- and it is what the standard allows: octets, at most 255 in the value
-pub read-octets : (d : Bool) (bs : List ℕ) (m : Filed) (left rest : List ℕ) → Octets bs → bs ≡ stands d m left rest → Octets (partsOf m) × (length (valueOf m) ≤ 255)
-read-octets d bs m left rest o e =
-    let p : Octets (stands d m left rest) = subst Octets e o in
-    let q : Octets ((partsOf m ++ left) ++ rest) = λ k. p (suc (suc (suc k))) in
-    (octets-front (partsOf m) left (octets-front (partsOf m ++ left) rest q), omega (arith, p 1, length-append (valueOf m) left))
 
 -- ---- what was written is found again, with the same meaning and nothing left
 

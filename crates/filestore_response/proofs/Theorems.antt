@@ -1,22 +1,24 @@
 -- WHAT THE RULES OF RESPONSES MEAN, against the standard's layout. What responses share with requests is proved once, in filestore_base and
 -- filestore_reader; here it is said of responses in the standard's own terms. Assumes nothing.
 use mathlib.Core.Path.{_≡_, refl, sym, ap, subst, _∙_}
-use Prim.Native.Nat.{ℕ, _+_, _*_, _≤_, _<_}
+use Prim.Native.Nat.{ℕ, _+_, _≤_, _<_}
 use native.Mathlib.Omega.{arith}
 use mathlib.Core.Logic.{_↔_}
-use mathlib.Core.Bool.{true}
+use mathlib.Core.Bool.{true, false≢true}
 use mathlib.Core.Option.{Option, some, none}
 use mathlib.Core.List.{List, [], _++_, append-nil}
 use lib.ListN.{length, drop}
-use Rattle.bluebook.specs.Layouts.{Octets, Named, there, Response, response, responseValue, Responded, lv, lvIf, tlv, filestoreResponse}
+use Rattle.bluebook.specs.Layouts.{Octets, Named, there, Response, response, responseValue, Responded, tlv, filestoreResponse}
 use Rattle.refusal.specs.Answer.{Answer, gives, mapA}
 use Rattle.refusal.specs.Reader.{Took, took, Exactly, Begins}
 use Rattle.refusal.proofs.Laws.{mapped-by, mapA-mapA}
 use Rattle.refusal.proofs.Once.{refusalOf-refused, untold, one-told}
 use Rattle.refusal.proofs.Readers.{answers, exactly-reworded, exactly-as}
 use Rattle.splice.specs.Writing.{Wrote}
+use Rattle.lv.specs.Rules.{span, partOf}
+use Rattle.lv.proofs.Laws.{partOf-in}
 use Rattle.action.specs.Rules.{codeOf}
-use Rattle.filestore_base.specs.Meaning.{Filed, filed, baseOf, bytesIf, isThere, secondAt, meaning, filedTlv}
+use Rattle.filestore_base.specs.Meaning.{Filed, filed, baseOf, bytesIf, isThere, partIf, secondAt, meaning, filedTlv}
 use Rattle.filestore_base.specs.declared.SecondName.{SecondName}
 use Rattle.filestore_base.specs.declared.SecondName.the-variants.{There, Absent}
 use Rattle.filestore_base.specs.Rules.{lenOf, buildTest, writeTest, writeBase, sameBase}
@@ -26,23 +28,20 @@ use Rattle.filestore_base.proofs.Theorems as bases
 use Rattle.filestore_reader.specs.Rules.{takeValue, found, readBase, statusListed, strictBase}
 use Rattle.filestore_reader.specs.declared.Found.{Found}
 use Rattle.filestore_reader.proofs.Exact.{exactly-filed}
-use Rattle.filestore_reader.proofs.Said.{placed-by, by-iff, built-by, octets-behind}
+use Rattle.filestore_reader.proofs.Said.{placed-by, by-iff, built-by, selected-by, allowed, written-by}
 use Rattle.filestore_reader.proofs.Theorems as readers
-use Rattle.filestore_response.specs.Meaning.{responseMeant, responsePlaced, slackResponse, responseSaid, takeResponse, takeStrictResponse}
+use Rattle.filestore_response.specs.Meaning.{responseMeant, responseFiled, responsePlaced, slackResponse, responseSaid, takeResponse, takeStrictResponse}
 use Rattle.filestore_response.specs.Rules.{responseBase, messageIn, responseIn, newResponse, readResponse, strictResponse}
 use Rattle.filestore_response.specs.Told.{toldResponse}
 use Rattle.filestore_response.specs.declared.FilestoreResponseTlv.{FilestoreResponseTlv}
 use Rattle.filestore_response.specs.declared.FilestoreResponseRead.{FilestoreResponseRead}
 use Rattle.filestore_response.specs.declared.FilestoreResponseRead.the-variants.{Read, Refused}
 
--- ---- what was found, taken back from the standard's words: a response has a message
-
-abbrev responseFiled : Response → List ℕ → Took Filed
-responseFiled r left = took (filed (r .action) (r .status) (r .first) (r .second) (some (r .message))) left
+-- ---- a response has a message
 
 present : (s : Option (List ℕ)) → there s ≡ true → some (bytesIf s) ≡ s
 present (some v) e = refl
-present none e = let z : _≡_ {A = ℕ} 0 1 = cc in absurd (omega arith)
+present none e = absurd (false≢true e)
 
 -- ---- SLACK: where there is none, the layout is the standard's
 
@@ -58,7 +57,7 @@ pub record ResponseOk (r : Response) : Type 0 where
 pub exactly-response : Exactly takeResponse (λ p. ResponseOk (p .0)) slackResponse
 exactly-response =
     exactly-as
-    (exactly-reworded (exactly-filed true) (λ t. (responseSaid (t .got), t .rest)) (λ p. responseFiled (p .0) (p .1))
+    (exactly-reworded (exactly-filed true) (λ t. (responseSaid (t .got), t .rest)) (λ p. took (responseFiled (p .0)) (p .1))
     (λ t h. λ i. took (filed (t .got .action) (t .got .low) (t .got .first) (t .got .second) (present (t .got .message) (h .message) i)) (t .rest))
     (λ p. refl))
     (λ p _. refl)
@@ -74,15 +73,15 @@ pub record ListedOk (r : Response) : Type 0 where
 pub exactly-strict-response : Exactly takeStrictResponse ListedOk response
 exactly-strict-response =
     exactly-as
-    (exactly-reworded (readers.exactly-strict true) (λ t. responseSaid (t .got)) (λ r. responseFiled r [])
+    (exactly-reworded (readers.exactly-strict true) (λ t. responseSaid (t .got)) (λ r. took (responseFiled r) [])
     (λ t h.
     let n = readers.no-slack true (t .got) (t .rest) (h .1) in
     λ i. took (filed (t .got .action) (t .got .low) (t .got .first) (t .got .second) (present (t .got .message) (h .0 .message) i)) (sym (n .0) i))
     (λ r. refl))
     (λ r _. no-slack-response r)
-    (λ r h. record { fine = record { named = h .0 .named; status = h .0 .low }; listed = readers.no-slack true (responseFiled r [] .got) [] (h .1) .1 })
+    (λ r h. record { fine = record { named = h .0 .named; status = h .0 .low }; listed = readers.no-slack true (responseFiled r) [] (h .1) .1 })
     (λ r h.
-    (record { named = h .fine .named; low = h .fine .status; message = refl }, readers.slack-none true (responseFiled r [] .got) [] (refl, h .listed)))
+    (record { named = h .fine .named; low = h .fine .status; message = refl }, readers.slack-none true (responseFiled r) [] (refl, h .listed)))
 
 -- ---- THE IFF THAT A REVIEWER READS: a call accepts exactly where the buffer begins with such a layout, whatever is behind
 
@@ -104,6 +103,20 @@ unfolding strictResponse strictBase
 strictly-reads-response bs q =
     by-iff (placed-by (readers.exactly-strict true) (λ t. responseSaid (t .got)) responsePlaced found responseIn (λ t h. response-placed t (h .0 .message)) bs)
     (answers exactly-strict-response responsePlaced bs q)
+
+-- what was read selects what stands there
+pub selected-response : (bs : List ℕ) (q : FilestoreResponseTlv) → readResponse bs ≡ gives q → (left : List ℕ) × Begins (λ p. ResponseOk (p .0)) slackResponse bs (responseMeant q bs, left)
+unfolding readResponse
+selected-response bs q e = selected-by true responseSaid (λ t. t .rest) exactly-response responseIn responseMeant meant-in bs q e
+  where
+    message-in : (s : SecondName) (bs : List ℕ) → partOf (messageIn s) bs ≡ bytesIf (partIf s bs)
+    message-in (There l) bs = refl
+    message-in Absent bs = partOf-in (span 0 0) bs (omega arith)
+
+    meant-in : (f : Found) (bs : List ℕ) → responseMeant (responseIn f) bs ≡ responseSaid (meaning (f .base) bs)
+    meant-in f bs =
+        let m = meaning (f .base) bs in
+        λ i. record { action = m .action; status = m .low; first = m .first; second = m .second; message = message-in (f .base .message) bs i }
 
 -- ---- WRITING: exactly the standard's bytes, exactly where they can be built, the spans lie in the source, and there is room
 
@@ -137,7 +150,7 @@ read-back-response q src old new k w =
       same = b .same;
     }
 
--- ---- what a builder or a reader gave passes the building tests, and what was read from octets is the standard's
+-- ---- what a builder or a reader gave passes the building tests, and what was read or written from octets is the standard's
 
 pub built-response : (q r : FilestoreResponseTlv) → newResponse q ≡ gives r → (q ≡ r) × (gives tt ≡ buildTest (responseBase r))
 unfolding newResponse
@@ -157,29 +170,22 @@ read-response-writable bs q o e =
       where
         go : (s : SecondName) → isThere s ≡ true → s ≡ There (messageIn s)
         go (There l) h = refl
-        go Absent h = let z : _≡_ {A = ℕ} 0 1 = cc in absurd (omega arith)
+        go Absent h = absurd (false≢true h)
 
     placed-there : (at : ℕ) (s : Option (List ℕ)) → there s ≡ true → isThere (secondAt at s) ≡ true
     placed-there at (some v) h = refl
     placed-there at none h = h
 
-pub read-responded : (bs : List ℕ) (q : FilestoreResponseTlv) → Octets bs → readResponse bs ≡ gives q → (m : Response) × Responded m × (q ≡ responsePlaced m)
-read-responded bs q o e =
-    let a = reads-response bs q .0 e in
-    let m = a .0 .0 in
-    let r = responseFiled m (a .0 .1) .got in
-    let v = readers.read-octets true bs r (a .0 .1) (a .1 .rest) o (a .1 .split) in (
-      m,
-      record {
-        named = a .1 .fine .named;
-        status = a .1 .fine .status;
-        value = record {
-          octets = octets-behind (m .action * 16 + m .status) (lv (m .first) ++ lvIf (m .second) ++ lv (m .message)) (omega (arith, a .1 .fine .named .known, a .1 .fine .status)) (v .0);
-          short = v .1;
-        };
-      },
-      a .2,
-    )
+responded : (q : FilestoreResponseTlv) (src : List ℕ) → Octets src → gives tt ≡ writeTest (responseBase q) src → Responded (responseMeant q src)
+responded q src o e =
+    let a = allowed src o (responseBase q) e in
+    record { named = a .0 .named; status = a .0 .low; value = a .1 }
+
+pub read-responded : (bs : List ℕ) (q : FilestoreResponseTlv) → Octets bs → readResponse bs ≡ gives q → Responded (responseMeant q bs)
+read-responded bs q o e = responded q bs o (read-response-writable bs q o e)
+
+pub written-responded : (q : FilestoreResponseTlv) (src : List ℕ) (n : ℕ) (bs : List ℕ) → Octets src → writeBase (responseBase q) src n ≡ gives bs → Responded (responseMeant q src)
+written-responded q src n bs o e = responded q src o (written-by (responseBase q) src n bs e)
 
 -- ---- COMPARING: `Same` is equality of meanings, `filestore_base`'s same-means, in the standard's words
 
@@ -187,7 +193,7 @@ pub same-responses : (q : FilestoreResponseTlv) (x : List ℕ) (r : FilestoreRes
     → (sameBase (responseBase q) x (responseBase r) y ≡ gives true) ↔ (Spans (responseBase q) x × Spans (responseBase r) y × (responseMeant q x ≡ responseMeant r y))
 same-responses q x r y =
     let s = bases.same-means (responseBase q) x (responseBase r) y in
-    (λ e. (let h = s .0 e in (h .0, h .1, ap responseSaid (h .2))), λ h. s .1 (h .0, h .1, ap (λ (m : Response). responseFiled m [] .got) (h .2)))
+    (λ e. (let h = s .0 e in (h .0, h .1, ap responseSaid (h .2))), λ h. s .1 (h .0, h .1, ap responseFiled (h .2)))
 
 -- ---- A WHOLE TLV is read the same, refusals included, whatever stands behind it
 

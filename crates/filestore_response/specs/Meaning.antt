@@ -1,15 +1,15 @@
 -- A response as the standard means it (`bluebook`), where its parts lie, and what plain reading ignores beside it.
-use Prim.Native.Nat.{ℕ, _+_}
+use Prim.Native.Nat.{ℕ}
 use mathlib.Core.Bool.{true}
+use mathlib.Core.Option.{some}
 use mathlib.Core.List.{List, _++_}
-use lib.ListN.{length}
-use Rattle.bluebook.specs.Layouts.{Response, responseValue, lvIf, tlv, filestoreResponse}
+use Rattle.bluebook.specs.Layouts.{Response, responseValue, tlv, filestoreResponse}
 use Rattle.refusal.specs.Reader.{Reader, reworded}
-use Rattle.lv.specs.Rules.{span, partOf}
-use Rattle.action.specs.Rules.{codeOf, actionAt}
-use Rattle.filestore_base.specs.Meaning.{Filed, bytesIf, partIf, secondAt}
-use Rattle.filestore_reader.specs.Rules.{takeFiled, takeStrict}
-use Rattle.filestore_response.specs.Rules.{responseOf}
+use Rattle.lv.specs.Rules.{partOf}
+use Rattle.action.specs.Rules.{codeOf}
+use Rattle.filestore_base.specs.Meaning.{Filed, filed, bytesIf, partIf, placed}
+use Rattle.filestore_reader.specs.Rules.{takeFiled, takeStrict, foundOf}
+use Rattle.filestore_response.specs.Rules.{responseIn}
 use Rattle.filestore_response.specs.declared.FilestoreResponseTlv.{FilestoreResponseTlv}
 
 -- ---- from spans to meaning
@@ -23,12 +23,14 @@ responseMeant q bs = record {
   message = partOf (q .«filestore_message») bs;
 }
 
--- ---- from meaning to spans, in a TLV at the front of a buffer
+-- ---- from meaning to spans, in a TLV at the front of a buffer: where filestore_base places the parts
+
+-- a response has a message
+abbrev pub responseFiled : Response → Filed
+responseFiled m = filed (m .action) (m .status) (m .first) (m .second) (some (m .message))
 
 abbrev pub responsePlaced : Response → FilestoreResponseTlv
-responsePlaced m =
-    responseOf (actionAt (m .action)) (m .status) (span 4 (length (m .first))) (secondAt (4 + length (m .first)) (m .second))
-    (span (4 + length (m .first) + length (lvIf (m .second)) + 1) (length (m .message)))
+responsePlaced m = responseIn (foundOf (placed (responseFiled m)) 0)
 
 -- ---- SLACK: bytes left in the value
 
