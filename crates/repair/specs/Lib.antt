@@ -1,3 +1,3 @@
 pub mod Rules
 pub mod Told
-pub mod Repaired
+pub mod Promise

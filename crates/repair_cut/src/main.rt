@@ -37,7 +37,7 @@ fn done(request: FilestoreRequestTlv) -> FilestoreResponseTlv {
 fn respond(journal: &mut [u8], used: usize, request: FilestoreRequestTlv, src: &[u8]) {
     match repair::append_response(journal, used, done(request), src) {
         Written::Bytes(n) => dump_io::list(&journal[..n]),
-        Written::Refused(_) => line(b"no room"),
+        Written::Refused(_) => line(b"refused"),
     }
 }
 
@@ -45,9 +45,9 @@ fn respond(journal: &mut [u8], used: usize, request: FilestoreRequestTlv, src: &
 fn run(copy: &[u8], journal: &mut [u8]) {
     match repair::first_request(copy) {
         FirstRequest::Found { place, request } => {
-            let names = &copy[place..];
-            print_names(request, names);
-            respond(journal, copy.len(), request, names);
+            let bytes = &copy[place..];
+            print_names(request, bytes);
+            respond(journal, copy.len(), request, bytes);
         }
         FirstRequest::NoRequest => line(b"no request"),
         FirstRequest::Refused(_) => line(b"too long"),

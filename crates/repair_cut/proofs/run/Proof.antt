@@ -1,7 +1,7 @@
 -- A request that is found stands in the journal. Assumes nothing.
 use mathlib.Core.Path.{sym, ap, _∙_}
 use Rattle.repair.specs.Told.{toldFirst}
-use Rattle.repair.proofs.Theorems.{found-listed}
+use Rattle.repair.proofs.Theorems.{first-inside}
 use borrow.Author.Needs.{needs}
 use Rattle.repair_cut.proofs.run.Statement.{statement}
 use Rattle.repair_cut.proofs.run.Tie as tie
@@ -12,14 +12,14 @@ first-request-requires c κs = search needs
 enum-known-place : tie.Need-enum-known-place
 enum-known-place c = search needs
 
-sub-names : tie.Need-sub-names
-sub-names c = found-listed _ _ _ (sym (c .before .before .before .first-request .ensures) ∙ ap toldFirst (c .before .place .given .1)) .inside
+sub-bytes : tie.Need-sub-bytes
+sub-bytes c = first-inside _ _ _ (sym (c .before .before .before .first-request .ensures) ∙ ap toldFirst (c .before .place .given .1))
 
-part-names-start : tie.Need-part-names-start
-part-names-start c = sub-names c
+part-bytes-start : tie.Need-part-bytes-start
+part-bytes-start c = sub-bytes c
 
-part-names-end : tie.Need-part-names-end
-part-names-end c = search needs
+part-bytes-end : tie.Need-part-bytes-end
+part-bytes-end c = search needs
 
 print-names-requires : tie.Need-print-names-requires
 print-names-requires c κs = search needs
@@ -63,9 +63,9 @@ run-spec =
     (tie.spec
     first-request-requires
     enum-known-place
-    sub-names
-    part-names-start
-    part-names-end
+    sub-bytes
+    part-bytes-start
+    part-bytes-end
     print-names-requires
     respond-requires
     enum-told
