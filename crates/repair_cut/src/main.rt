@@ -1,0 +1,66 @@
+// An example of a program over the library, run on samples/cut.tlv: it prints the names of a journal's first request, appends a response to that
+// request, over the stump, and lists the journal that this makes.
+use dump_io::Input;
+use filestore::FilestoreRequestTlv;
+use filestore::FilestoreResponseTlv;
+use filestore_base::SecondName;
+use lv::Lv;
+use refusal::Written;
+use repair::FirstRequest;
+
+fn line(text: &[u8]) {
+    io::write_all(libc::STDOUT_FILENO, text);
+    io::write_all(libc::STDOUT_FILENO, b"\n");
+}
+
+// The names of a request, a line each.
+fn print_names(request: FilestoreRequestTlv, bytes: &[u8]) {
+    line(request.first_name().value(bytes));
+    let second_name = request.second_name();
+    if let SecondName::There(name) = second_name {
+        line(name.value(bytes));
+    }
+}
+
+// The response to a request that was carried out: its action and its names, status 0, and no message.
+fn done(request: FilestoreRequestTlv) -> FilestoreResponseTlv {
+    FilestoreResponseTlv {
+        action_code: request.action_code(),
+        status_code: 0,
+        first_name: request.first_name(),
+        second_name: request.second_name(),
+        filestore_message: Lv::new_empty(),
+    }
+}
+
+// Appends the response to a request to the journal of so many bytes, and lists it. The names lie in src.
+fn respond(journal: &mut [u8], used: usize, request: FilestoreRequestTlv, src: &[u8]) {
+    match repair::append_response(journal, used, done(request), src) {
+        Written::Bytes(n) => dump_io::list(&journal[..n]),
+        Written::Refused(_) => line(b"refused"),
+    }
+}
+
+// The request is read from a copy of the journal, so that its names can be lent while the journal is written.
+fn run(copy: &[u8], journal: &mut [u8]) {
+    match repair::first_request(copy) {
+        FirstRequest::Found { place, request } => {
+            let bytes = &copy[place..];
+            print_names(request, bytes);
+            respond(journal, copy.len(), request, bytes);
+        }
+        FirstRequest::NoRequest => line(b"no request"),
+        FirstRequest::Refused(_) => line(b"too long"),
+    }
+}
+
+fn main() {
+    let mut journal = dump_io::input_room();
+    match dump_io::read_input(&mut journal) {
+        Input::Bytes(used) => {
+            let copy = journal;
+            run(&copy[..used], &mut journal);
+        }
+        Input::Failed => os::fail(b"standard input"),
+    }
+}
