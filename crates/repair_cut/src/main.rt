@@ -1,12 +1,13 @@
 // An example of a program over the library, run on samples/cut.tlv: it prints the names of a journal's first request, appends a response to that
 // request, over the stump, and lists the journal that this makes.
-use dump_io::Input;
-use filestore::FilestoreRequestTlv;
-use filestore::FilestoreResponseTlv;
 use filestore_base::SecondName;
+use filestore_request::FilestoreRequestTlv;
+use filestore_response::FilestoreResponseTlv;
 use lv::Lv;
 use refusal::Written;
 use repair::FirstRequest;
+ghost use mathlib.Core.Path.{_≡_};
+ghost use lib.ListN.{length};
 
 fn line(text: &[u8]) {
     io::write_all(libc::STDOUT_FILENO, text);
@@ -54,13 +55,16 @@ fn run(copy: &[u8], journal: &mut [u8]) {
     }
 }
 
+// Room for the longest journal. The clause is what lending the array as a slice needs.
+fn room() -> [u8; 65536]
+    ensures { λ r. ⌜ 65536 ≡ length r ⌝ }
+{
+    [0; 65536]
+}
+
 fn main() {
-    let mut journal = dump_io::input_room();
-    match dump_io::read_input(&mut journal) {
-        Input::Bytes(used) => {
-            let copy = journal;
-            run(&copy[..used], &mut journal);
-        }
-        Input::Failed => os::fail(b"standard input"),
-    }
+    let mut journal = room();
+    let used = io::read_full(libc::STDIN_FILENO, &mut journal);
+    let copy = journal;
+    run(&copy[..used], &mut journal);
 }
