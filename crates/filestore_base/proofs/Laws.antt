@@ -12,7 +12,7 @@ use borrow.Author.Tests.{eq-eqb, ne-eqb}
 use borrow.Rule.Slice.PartMut.{putMid, post-is, mid-len}
 use Rattle.bluebook.specs.Layouts.{lv, lvIf, there}
 use Rattle.refusal.specs.Answer.{Answer, gives, refuses, mapA, also, Test}
-use Rattle.refusal.proofs.Laws.{gives-same, also-refused, also-passed, also-both, also-assoc, also-mapped, limit-in, limit-passed}
+use Rattle.refusal.proofs.Laws.{gives-same, also-refused, also-passed, also-both, also-mapped, limit-in, limit-passed}
 use Rattle.splice.specs.Laid.{laid, sameBytes}
 use Rattle.splice.specs.Writing.{roomAt, Wrote}
 use Rattle.splice.proofs.Laws.{laid-is, laid-all, laid-cons, laid-behind, laid-none}
@@ -49,23 +49,18 @@ pub record Parts (b : FilestoreTlvBase) : Type 0 where
   pub low : b .«low_bits» ≤ 15
 
 module _ (b : FilestoreTlvBase) where
-  -- one test behind the other
-  pub partsTest-row : also (sizeTest (b .«first_name»)) (also (sizeIf (b .«second_name»)) (also (sizeIf (b .message)) (also (dueTest (dueOf (b .«action_code»)) (b .«second_name»)) (statusTest (b .«low_bits»))))) ≡ partsTest b
-  unfolding partsTest
-  partsTest-row = sym (simp also-assoc)
-
   pub parts : gives tt ≡ partsTest b → Parts b
+  unfolding partsTest
   parts e =
-      let p = also-both (sizeTest (b .«first_name»)) (also (sizeIf (b .«second_name»)) (also (sizeIf (b .message)) (also (dueTest (dueOf (b .«action_code»)) (b .«second_name»)) (statusTest (b .«low_bits»))))) tt (e ∙ sym partsTest-row) in
+      let p = also-both (sizeTest (b .«first_name»)) (also (sizeIf (b .«second_name»)) (also (sizeIf (b .message)) (also (dueTest (dueOf (b .«action_code»)) (b .«second_name»)) (statusTest (b .«low_bits»))))) tt e in
       let q = also-both (sizeIf (b .«second_name»)) (also (sizeIf (b .message)) (also (dueTest (dueOf (b .«action_code»)) (b .«second_name»)) (statusTest (b .«low_bits»)))) tt (p .1) in
       let r = also-both (sizeIf (b .message)) (also (dueTest (dueOf (b .«action_code»)) (b .«second_name»)) (statusTest (b .«low_bits»))) tt (q .1) in
       let s = also-both (dueTest (dueOf (b .«action_code»)) (b .«second_name»)) (statusTest (b .«low_bits»)) tt (r .1) in
       record { first = sizeTest-passed (b .«first_name») (p .0); second = q .0; message = r .0; due = s .0; low = limit-passed 9 15 (b .«low_bits») (s .1) }
 
   pub parts-passed : Parts b → gives tt ≡ partsTest b
-  parts-passed p =
-      sym (rw (sizeTest-in (b .«first_name») (p .first), ← p .second, ← p .message, ← p .due, limit-in 9 15 (b .«low_bits») (p .low)))
-      ∙ partsTest-row
+  unfolding partsTest
+  parts-passed p = sym (rw (sizeTest-in (b .«first_name») (p .first), ← p .second, ← p .message, ← p .due, limit-in 9 15 (b .«low_bits») (p .low)))
 
   pub buildTest-refused : (n : ℕ) (vs : List ℕ) → refuses n vs ≡ partsTest b → refuses n vs ≡ buildTest b
   unfolding buildTest
@@ -172,19 +167,16 @@ pub record Spans (b : FilestoreTlvBase) (bs : List ℕ) : Type 0 where
   pub message : gives tt ≡ spanIf (b .message) bs
 
 module _ (b : FilestoreTlvBase) (bs : List ℕ) where
-  -- one test behind the other
-  pub spansTest-row : also (spanTest (b .«first_name») bs) (also (spanIf (b .«second_name») bs) (spanIf (b .message) bs)) ≡ spansTest b bs
-  unfolding spansTest
-  spansTest-row = sym (simp also-assoc)
-
   pub spans : gives tt ≡ spansTest b bs → Spans b bs
+  unfolding spansTest
   spans e =
-      let p = also-both (spanTest (b .«first_name») bs) (also (spanIf (b .«second_name») bs) (spanIf (b .message) bs)) tt (e ∙ sym spansTest-row) in
+      let p = also-both (spanTest (b .«first_name») bs) (also (spanIf (b .«second_name») bs) (spanIf (b .message) bs)) tt e in
       let q = also-both (spanIf (b .«second_name») bs) (spanIf (b .message) bs) tt (p .1) in
       record { first = spanTest-passed (b .«first_name») bs (p .0); second = q .0; message = q .1 }
 
   pub spans-passed : Spans b bs → gives tt ≡ spansTest b bs
-  spans-passed s = sym (rw (spanTest-in (b .«first_name») bs (s .first), ← s .second, ← s .message)) ∙ spansTest-row
+  unfolding spansTest
+  spans-passed s = sym (rw (spanTest-in (b .«first_name») bs (s .first), ← s .second, ← s .message))
 
   -- the value's length is that of its parts
   pub length-value : Spans b bs → length (valueOf (meaning b bs)) ≡ lenOf b

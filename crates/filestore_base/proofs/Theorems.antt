@@ -10,7 +10,6 @@ use mathlib.Core.List.{List, []}
 use lib.ListN.{length}
 use lib.Dec.{eqb}
 use borrow.Author.Tests.{eq-eqb, eqb-true}
-use Rattle.bluebook.specs.Layouts.{there}
 use Rattle.refusal.specs.Answer.{gives, also}
 use Rattle.refusal.proofs.Laws.{gives-same, gives-or-refuses, also-both, also-passed}
 use Rattle.splice.specs.Laid.{sameBytes}

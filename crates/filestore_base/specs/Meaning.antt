@@ -4,9 +4,12 @@ use mathlib.Core.Bool.{Bool, true, false}
 use mathlib.Core.Option.{Option, some, none}
 use mathlib.Core.List.{List, [], _∷_, _++_}
 use lib.ListN.{length}
-use Rattle.bluebook.specs.Layouts.{lv, tlv, lvIf, there, filestoreRequest, filestoreResponse}
+use Rattle.bluebook.specs.Layouts.{lv, tlv, lvIf, there}
 use Rattle.lv.specs.Rules.{span, partOf}
 use Rattle.lv.specs.declared.Lv.{Lv}
+use Rattle.tlv.specs.Kinds as kinds
+use Rattle.tlv.specs.declared.TlvType.{TlvType}
+use Rattle.tlv.specs.declared.TlvType.the-variants.{FilestoreRequest, FilestoreResponse}
 use Rattle.action.specs.Rules.{codeOf, actionAt}
 use Rattle.action.specs.declared.FilestoreActionCode.{FilestoreActionCode}
 use Rattle.filestore_base.specs.declared.SecondName.{SecondName}
@@ -34,9 +37,13 @@ abbrev pub valueOf : Filed → List ℕ
 valueOf m = (m .action * 16 + m .low) ∷ partsOf m
 
 -- the type of a response, or of a request
+abbrev pub typeIn : Bool → TlvType
+typeIn true = FilestoreResponse
+typeIn false = FilestoreRequest
+
+-- and its byte
 abbrev pub kindOf : Bool → ℕ
-kindOf true = filestoreResponse
-kindOf false = filestoreRequest
+kindOf d = kinds.codeOf (typeIn d)
 
 abbrev pub filedTlv : Filed → List ℕ
 filedTlv m = tlv (kindOf (there (m .message))) (valueOf m)

@@ -3,8 +3,7 @@ use mathlib.Core.Path.{_≡_}
 use Prim.Native.Nat.{ℕ, _+_, _≤_}
 use mathlib.Core.Bool.{Bool, true, false, _&&_}
 use mathlib.Core.Option.{Option, some, none}
-use mathlib.Core.List.{List, [], _∷_}
-use lib.ListN.{length}
+use mathlib.Core.List.{List, []}
 use lib.Dec.{eqb}
 use Rattle.refusal.specs.Answer.{Answer, gives, refuses, also, Test, limitTest}
 use Rattle.splice.specs.Laid.{sameBytes}
@@ -49,11 +48,11 @@ statusTest s = limitTest 9 15 s
 
 unfoldable pub partsTest : FilestoreTlvBase → Test
 partsTest b =
-    also
-    (also
-    (also (also (sizeTest (b .«first_name»)) (sizeIf (b .«second_name»))) (sizeIf (b .message)))
-    (dueTest (dueOf (b .«action_code»)) (b .«second_name»)))
-    (statusTest (b .«low_bits»))
+    also (sizeTest (b .«first_name»))
+    (also (sizeIf (b .«second_name»))
+    (also (sizeIf (b .message))
+    (also (dueTest (dueOf (b .«action_code»)) (b .«second_name»))
+    (statusTest (b .«low_bits»)))))
 
 -- the length of the value: the first byte, and each LV
 abbrev pub lenOf : FilestoreTlvBase → ℕ
@@ -76,7 +75,7 @@ lenFull b = also (buildTest b) (gives (lenOf b + 2))
 -- ---- WRITING to n bytes: the building tests, then 15 in writing order, then 2 (n, 2 + the length of the value)
 
 unfoldable pub spansTest : FilestoreTlvBase → List ℕ → Test
-spansTest b bs = also (also (spanTest (b .«first_name») bs) (spanIf (b .«second_name») bs)) (spanIf (b .message) bs)
+spansTest b bs = also (spanTest (b .«first_name») bs) (also (spanIf (b .«second_name») bs) (spanIf (b .message) bs))
 
 unfoldable pub writeTest : FilestoreTlvBase → List ℕ → Test
 writeTest b src = also (buildTest b) (spansTest b src)

@@ -17,9 +17,8 @@ ghost use Rattle.refusal.specs.Answer.{gives};
 ghost use Rattle.refusal.specs.Told.{toldWritten, toldChecked, toldLength, toldSameness};
 ghost use Rattle.splice.specs.Laid.{laid};
 ghost use Rattle.splice.specs.Writing.{Wrote};
-ghost use Rattle.tlv.specs.Kinds.{codeOf};
 ghost use Rattle.action.specs.Rules.{dueOf};
-ghost use Rattle.filestore_base.specs.Meaning.{bytesIf, isThere, partIf, kindOf, meaning, partsOf};
+ghost use Rattle.filestore_base.specs.Meaning.{bytesIf, isThere, partIf, typeIn, meaning, partsOf};
 ghost use Rattle.filestore_base.specs.Rules.{spanIf, sizeIf, lenIf, FitsIf, dueTest, statusTest, partsTest, lenOf, buildTest, spansTest, lenValue, lenFull, writeTest, writeBase, sameIf, sameOctet, sameParts, sameBase};
 
 // A second name is either there, with its span, or absent. So is, inside, a message: a request has none.
@@ -138,7 +137,7 @@ impl SecondName {
 
 // The type of a response, or of a request.
 pub fn tlv_type(response: bool) -> TlvType
-    ensures { λ r. ⌜ codeOf r ≡ kindOf response ⌝ }
+    ensures { λ r. ⌜ r ≡ typeIn response ⌝ }
 {
     if response {
         TlvType::FilestoreResponse
@@ -235,7 +234,7 @@ impl FilestoreTlvBase {
     }
 
     // 15 for the first span that passes the buffer's end: first name, second, message.
-    pub fn span_test(self, buf: &[u8]) -> Checked
+    fn span_test(self, buf: &[u8]) -> Checked
         ensures { λ r. ⌜ toldChecked r ≡ spansTest self (now (buf .entry)) ⌝ }
     {
         let first = self.first_name;

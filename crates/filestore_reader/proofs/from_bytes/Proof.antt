@@ -1,9 +1,10 @@
 -- `from_bytes` meets its contract: a TLV of the type, and then its value. Assumes nothing.
 use mathlib.Core.Path.{_≡_, sym, ap, _∙_}
-use Prim.Native.Nat.{ℕ}
 use Rattle.refusal.specs.Told.{toldLength}
 use Rattle.refusal.specs.declared.Length.{Length}
+use Rattle.tlv.specs.Kinds.{codeOf}
 use Rattle.tlv.specs.Rules.{lenOfType}
+use Rattle.tlv.specs.declared.TlvType.{TlvType}
 use Rattle.tlv.proofs.Theorems as tlvs
 use Rattle.filestore_base.specs.Meaning.{kindOf}
 use Rattle.filestore_reader.proofs.Laws.{readBase-refused, readBase-value}
@@ -24,7 +25,7 @@ enum-known-end c = search needs
 told : (c : tie.After-len-of) (x : Length) → c .len-of .result ≡ x → (let a = c .before .before .before .args in toldLength x ≡ lenOfType (kindOf (a .response)) (a .buf .now))
 told c x e =
     let a = c .before .before .before .args in
-    sym (ap toldLength e) ∙ c .len-of .ensures ∙ ap (λ (t : ℕ). lenOfType t (a .buf .now)) (c .before .tlv-type .ensures)
+    sym (ap toldLength e) ∙ c .len-of .ensures ∙ ap (λ (t : TlvType). lenOfType (codeOf t) (a .buf .now)) (c .before .tlv-type .ensures)
 
 value-before-requires : tie.Need-value-before-requires
 value-before-requires c κs = let f = tlvs.found _ _ _ (sym (told (c .before .before .before) _ (c .before .end .given .1))) in (f .behind, f .inside)

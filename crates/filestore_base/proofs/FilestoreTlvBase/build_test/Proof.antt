@@ -3,7 +3,6 @@ use mathlib.Core.Path.{_≡_, sym, ap, _∙_}
 use native.Mathlib.Omega.{arith}
 use Prim.Native.Nat.{ℕ}
 use mathlib.Core.List.{[], _∷_}
-use lib.ListN.{length}
 use Rattle.refusal.specs.Answer.{gives, refuses}
 use Rattle.refusal.specs.Told.{toldChecked}
 use Rattle.refusal.proofs.Laws.{limit-in, limit-over}

@@ -2,7 +2,6 @@
 use mathlib.Core.Path.{_≡_, sym, ap, _∙_}
 use native.Mathlib.Omega.{arith}
 use Prim.Native.Nat.{_+_}
-use lib.ListN.{length}
 use Rattle.refusal.specs.Answer.{mapA}
 use Rattle.refusal.specs.Told.{toldLength}
 use Rattle.refusal.specs.declared.Length.{Length}

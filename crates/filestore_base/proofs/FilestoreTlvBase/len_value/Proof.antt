@@ -1,6 +1,5 @@
 -- `FilestoreTlvBase::len_value` meets its contract: the building tests, then the length. Assumes nothing.
 use mathlib.Core.Path.{_≡_, sym, ap, _∙_}
-use lib.ListN.{length}
 use Rattle.refusal.specs.Answer.{gives}
 use Rattle.refusal.specs.Told.{toldChecked}
 use Rattle.filestore_base.proofs.Laws.{built, lenValue-refused, lenValue-passed}

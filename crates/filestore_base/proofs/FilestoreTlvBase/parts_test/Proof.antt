@@ -5,8 +5,8 @@ use Rattle.refusal.specs.Told.{toldChecked}
 use Rattle.refusal.proofs.Laws.{also-refused}
 use Rattle.lv.specs.Rules.{sizeTest}
 use Rattle.action.specs.Rules.{dueOf}
-use Rattle.filestore_base.specs.Rules.{sizeIf, dueTest}
-use Rattle.filestore_base.proofs.Laws.{behind, partsTest-row}
+use Rattle.filestore_base.specs.Rules.{sizeIf, dueTest, partsTest}
+use Rattle.filestore_base.proofs.Laws.{behind}
 use borrow.Author.Needs.{needs}
 use Rattle.filestore_base.proofs.FilestoreTlvBase.parts_test.Statement.{statement}
 use Rattle.filestore_base.proofs.FilestoreTlvBase.parts_test.Tie as tie
@@ -18,7 +18,8 @@ enum-known-test : tie.Need-enum-known-test
 enum-known-test c = search needs
 
 returns : tie.Need-returns
-returns c = also-refused _ _ _ _ (sym (ap toldChecked (c .before .test .given .1)) ∙ c .before .before .before .size-test .ensures) ∙ partsTest-row _
+unfolding partsTest
+returns c = also-refused _ _ _ _ (sym (ap toldChecked (c .before .test .given .1)) ∙ c .before .before .before .size-test .ensures)
 
 enum-told : tie.Need-enum-told
 enum-told c = search needs
@@ -33,7 +34,8 @@ enum-known-test-2 : tie.Need-enum-known-test-2
 enum-known-test-2 c = search needs
 
 returns-2 : tie.Need-returns-2
-returns-2 c = behind (first (c .before .before .before .before)) (also-refused _ _ _ _ (sym (ap toldChecked (c .before .test2 .given .1)) ∙ c .before .before .before .size-test2 .ensures)) ∙ partsTest-row _
+unfolding partsTest
+returns-2 c = behind (first (c .before .before .before .before)) (also-refused _ _ _ _ (sym (ap toldChecked (c .before .test2 .given .1)) ∙ c .before .before .before .size-test2 .ensures))
 
 enum-told-2 : tie.Need-enum-told-2
 enum-told-2 c = search needs
@@ -48,7 +50,8 @@ enum-known-test-3 : tie.Need-enum-known-test-3
 enum-known-test-3 c = search needs
 
 returns-3 : tie.Need-returns-3
-returns-3 c = behind (first (c .before .before .before .before .before .before .before)) (behind (second (c .before .before .before .before)) (also-refused _ _ _ _ (sym (ap toldChecked (c .before .test3 .given .1)) ∙ c .before .before .before .size-test3 .ensures))) ∙ partsTest-row _
+unfolding partsTest
+returns-3 c = behind (first (c .before .before .before .before .before .before .before)) (behind (second (c .before .before .before .before)) (also-refused _ _ _ _ (sym (ap toldChecked (c .before .test3 .given .1)) ∙ c .before .before .before .size-test3 .ensures)))
 
 enum-told-3 : tie.Need-enum-told-3
 enum-told-3 c = search needs
@@ -63,7 +66,8 @@ enum-known-test-4 : tie.Need-enum-known-test-4
 enum-known-test-4 c = search needs
 
 returns-4 : tie.Need-returns-4
-returns-4 c = behind (first (c .before .before .before .before .before .before .before .before .before .before)) (behind (second (c .before .before .before .before .before .before .before)) (behind (message (c .before .before .before .before)) (also-refused _ _ _ _ (sym (ap toldChecked (c .before .test4 .given .1)) ∙ c .before .before .before .due-test .ensures)))) ∙ partsTest-row _
+unfolding partsTest
+returns-4 c = behind (first (c .before .before .before .before .before .before .before .before .before .before)) (behind (second (c .before .before .before .before .before .before .before)) (behind (message (c .before .before .before .before)) (also-refused _ _ _ _ (sym (ap toldChecked (c .before .test4 .given .1)) ∙ c .before .before .before .due-test .ensures))))
 
 enum-told-4 : tie.Need-enum-told-4
 enum-told-4 c = search needs
@@ -75,7 +79,8 @@ status-test-requires : tie.Need-status-test-requires
 status-test-requires c κs = search needs
 
 returns-5 : tie.Need-returns-5
-returns-5 c = behind (first (c .before .before .before .before .before .before .before .before .before .before)) (behind (second (c .before .before .before .before .before .before .before)) (behind (message (c .before .before .before .before)) (behind (due (c .before)) (c .status-test .ensures)))) ∙ partsTest-row _
+unfolding partsTest
+returns-5 c = behind (first (c .before .before .before .before .before .before .before .before .before .before)) (behind (second (c .before .before .before .before .before .before .before)) (behind (message (c .before .before .before .before)) (behind (due (c .before)) (c .status-test .ensures))))
 
 pub parts-test-spec : {M : Type 1} → statement M
 parts-test-spec =

@@ -4,7 +4,6 @@ use native.Mathlib.Omega.{arith}
 use Rattle.lv.proofs.Laws.{writeTest-passed, writeLvAt-laid}
 use Prim.Native.Nat.{ℕ, _+_}
 use lib.ListN.{length}
-use Rattle.splice.specs.Laid.{laid}
 use Rattle.filestore_base.proofs.Laws.{parts-laid, Writable, writable, fits-if, sound-if, sizeIf-passed}
 use borrow.Author.Needs.{needs}
 use Rattle.filestore_base.proofs.FilestoreTlvBase.put_parts.Statement.{statement}

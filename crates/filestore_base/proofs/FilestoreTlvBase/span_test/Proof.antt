@@ -4,8 +4,8 @@ use Rattle.refusal.specs.Answer.{gives}
 use Rattle.refusal.specs.Told.{toldChecked}
 use Rattle.refusal.proofs.Laws.{also-refused}
 use Rattle.lv.specs.Rules.{spanTest}
-use Rattle.filestore_base.specs.Rules.{spanIf}
-use Rattle.filestore_base.proofs.Laws.{behind, spansTest-row}
+use Rattle.filestore_base.specs.Rules.{spanIf, spansTest}
+use Rattle.filestore_base.proofs.Laws.{behind}
 use borrow.Author.Needs.{needs}
 use Rattle.filestore_base.proofs.FilestoreTlvBase.span_test.Statement.{statement}
 use Rattle.filestore_base.proofs.FilestoreTlvBase.span_test.Tie as tie
@@ -17,7 +17,8 @@ enum-known-test : tie.Need-enum-known-test
 enum-known-test c = search needs
 
 returns : tie.Need-returns
-returns c = also-refused _ _ _ _ (sym (ap toldChecked (c .before .test .given .1)) ∙ c .before .before .before .span-test .ensures) ∙ spansTest-row _ _
+unfolding spansTest
+returns c = also-refused _ _ _ _ (sym (ap toldChecked (c .before .test .given .1)) ∙ c .before .before .before .span-test .ensures)
 
 enum-told : tie.Need-enum-told
 enum-told c = search needs
@@ -32,7 +33,8 @@ enum-known-test-2 : tie.Need-enum-known-test-2
 enum-known-test-2 c = search needs
 
 returns-2 : tie.Need-returns-2
-returns-2 c = behind (first (c .before .before .before .before)) (also-refused _ _ _ _ (sym (ap toldChecked (c .before .test2 .given .1)) ∙ c .before .before .before .span-test2 .ensures)) ∙ spansTest-row _ _
+unfolding spansTest
+returns-2 c = behind (first (c .before .before .before .before)) (also-refused _ _ _ _ (sym (ap toldChecked (c .before .test2 .given .1)) ∙ c .before .before .before .span-test2 .ensures))
 
 enum-told-2 : tie.Need-enum-told-2
 enum-told-2 c = search needs
@@ -44,7 +46,8 @@ span-test-requires-3 : tie.Need-span-test-requires-3
 span-test-requires-3 c κs = search needs
 
 returns-3 : tie.Need-returns-3
-returns-3 c = behind (first (c .before .before .before .before)) (behind (second (c .before)) (c .span-test3 .ensures)) ∙ spansTest-row _ _
+unfolding spansTest
+returns-3 c = behind (first (c .before .before .before .before)) (behind (second (c .before)) (c .span-test3 .ensures))
 
 pub span-test-spec : {M : Type 1} → statement M
 span-test-spec =

@@ -7,10 +7,11 @@ use lib.ListN.{length, length-set}
 use Rattle.refusal.specs.Answer.{gives}
 use Rattle.refusal.specs.Told.{toldChecked}
 use Rattle.refusal.proofs.Laws.{also-refused}
+use Rattle.tlv.specs.Kinds.{codeOf}
 use Rattle.action.proofs.Laws.{code-known}
 use Rattle.filestore_base.proofs.Laws.{Writable, writable, behind, built, writeTest-is, writeBase-refused, writeBase-small, writeBase-room}
 use Rattle.filestore_base.specs.Rules.{buildTest, writeTest, lenOf}
-use Rattle.filestore_base.specs.Meaning.{kindOf}
+use Rattle.filestore_base.specs.Meaning.{typeIn}
 use borrow.Author.Needs.{needs}
 use Rattle.filestore_base.proofs.FilestoreTlvBase.write_to_slice.Statement.{statement}
 use Rattle.filestore_base.proofs.FilestoreTlvBase.write_to_slice.Tie as tie
@@ -107,7 +108,7 @@ same-length c = c .before .before .put-parts .kept .1 .1 .0 ∙ simp length-set
 returns-4 : tie.Need-returns-4
 returns-4 c =
     let a = c .before .before .before .before .before .before .before .before .before .before .before .before .before .before .before .before .before .before .before .args in
-    writeBase-room _ _ _ (passed (c .before .before .before .before .before .before .before .before .before .before .before)) _ _ _ _ (room (c .before .before .before .before .before .before .before .before .before)) (c .before .before .before .before .before .before .to-byte .ensures ∙ c .before .before .before .before .before .before .before .tlv-type .ensures ∙ ap kindOf (c .before .before .before .before .before .before .before .before .is-there .ensures)) (c .before .before .before .before .before .before .before .before .before .before .len .ensures)
+    writeBase-room _ _ _ (passed (c .before .before .before .before .before .before .before .before .before .before .before)) _ _ _ _ (room (c .before .before .before .before .before .before .before .before .before)) (c .before .before .before .before .before .before .to-byte .ensures ∙ ap codeOf (c .before .before .before .before .before .before .before .tlv-type .ensures ∙ ap typeIn (c .before .before .before .before .before .before .before .before .is-there .ensures))) (c .before .before .before .before .before .before .before .before .before .before .len .ensures)
     (ap (λ (k : ℕ). k * 16 + a .self .«low_bits») (c .before .before .before .before .before .to-code .ensures)) (c .before .before .put-parts .ensures)
 
 pub write-to-slice-spec : {M : Type 1} → statement M
