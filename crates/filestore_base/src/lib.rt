@@ -39,7 +39,7 @@ pub struct FilestoreTlvBase {
 // ---- a second name
 
 impl SecondName {
-    // The name, as a part of the buffer; none, or the buffer's first 0 bytes, where it is absent or its span passes the end.
+    // The name, as a part of the buffer, or the buffer's first 0 bytes where it is absent or its span passes the end.
     pub fn value(self, buf: &[u8]) -> &[u8]
         ensures { λ r. ⌜ now r ≡ bytesIf (partIf self (now (buf .entry))) ⌝ }
     {

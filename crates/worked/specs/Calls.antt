@@ -14,7 +14,7 @@ use Rattle.filestore_base.specs.declared.SecondName.{SecondName}
 use Rattle.filestore_base.specs.declared.SecondName.the-variants.{There, Absent}
 use Rattle.filestore_request.specs.Rules.{readRequest, strictRequest}
 use Rattle.filestore_request.specs.declared.FilestoreRequestTlv.{FilestoreRequestTlv}
-use Rattle.filestore_response.specs.Rules.{readResponse, strictResponse}
+use Rattle.filestore_response.specs.Rules.{readResponse}
 use Rattle.filestore_response.specs.declared.FilestoreResponseTlv.{FilestoreResponseTlv}
 use Rattle.walk.specs.Rules.{Standing, found, ended, Summed, stepAt, summaryOf}
 use Rattle.walk.specs.declared.End.{End}
@@ -28,7 +28,6 @@ pub data Call : Type 0 where
   request : Call  -- FilestoreRequestTlv::from_bytes
   response : Call  -- FilestoreResponseTlv::from_bytes
   requestStrict : Call  -- FilestoreRequestTlv::from_bytes_strict
-  responseStrict : Call  -- FilestoreResponseTlv::from_bytes_strict
   step : ℕ → Call  -- walk::step_at, at that place
   summary : Call  -- walk::summary_of
 
@@ -40,7 +39,6 @@ Given entity = Entity
 Given request = FilestoreRequestTlv
 Given response = FilestoreResponseTlv
 Given requestStrict = FilestoreRequestTlv
-Given responseStrict = FilestoreResponseTlv
 Given (step place) = Standing
 Given summary = Summed
 
@@ -53,7 +51,6 @@ rule entity bs = readEntity bs
 rule request bs = readRequest bs
 rule response bs = readResponse bs
 rule requestStrict bs = strictRequest bs
-rule responseStrict bs = strictResponse bs
 rule (step place) bs = stepAt bs place
 rule summary bs = summaryOf bs
 
@@ -101,7 +98,6 @@ says entity e bs = number (e .width) (e .number)
 says request q bs = saysRequest q bs
 says response q bs = saysResponse q bs
 says requestStrict q bs = saysRequest q bs
-says responseStrict q bs = saysResponse q bs
 says (step place) s bs = saysStanding s bs
 says summary s bs = counts (s .count) (s .end)
 
