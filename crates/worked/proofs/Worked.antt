@@ -9,7 +9,7 @@ use Rattle.entity_id.specs.Rules.{widthOk, widthTest, headTest, typeTest, value
 use Rattle.action.specs.Rules.{actionAt}
 use Rattle.filestore_reader.specs.Rules.{takeOctet, takeIf, takeSecond, takeValue, readBase, statusListed, listedTest, strictBase}
 use Rattle.filestore_request.specs.Rules.{readRequest, strictRequest}
-use Rattle.filestore_response.specs.Rules.{readResponse, strictResponse}
+use Rattle.filestore_response.specs.Rules.{readResponse}
 use Rattle.walk.specs.Journal.{walkOn, walk}
 use Rattle.walk.specs.Rules.{front, stepAt, summaryOf}
 use Rattle.worked.specs.Calls.{Given, rule, said, answerOf}
@@ -25,7 +25,7 @@ pub worked : (r : Row) → List·Memᴰ r table → Holds r
 unfolding limitTest beFrom partOf takeLv readLv takeTlv readTlv takeOf
     widthOk widthTest headTest typeTest valueTest takeEntity readEntity
     actionAt takeOctet takeIf takeSecond takeValue readBase statusListed listedTest strictBase
-    readRequest strictRequest readResponse strictResponse
+    readRequest strictRequest readResponse
     walkOn walk front stepAt summaryOf
 worked r m = each (λ (x : Row). answerOf (x .call) (x .bytes)) (λ (x : Row). x .answer) m refl
 
