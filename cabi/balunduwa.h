@@ -1,14 +1,14 @@
 /* Balunduwa for C: the codec and the walk of a CFDP journal, as a static library for x86-64.
  *
- * Every function is proved, in crates/cabi, to answer what document 01 says, for all arguments, and where it is silent what docs/DECISIONS.md
- * says; this header and the compiler that reads it are not part of that proof.
+ * Every function is proved, in crates/cabi, to answer what its customer's rules say ("document 01"), and where they are silent what
+ * docs/DECISIONS.md says, for all arguments that keep the two rules below; this header and the compiler that reads it are not part of that proof.
  *
- * An answer is a struct by value. It begins with a refusal: number 0 where there is none, else document 01's number from 1 to 15, with
- * the refusal's values in its order and 0 for each value that it does not carry. Behind it stands what the call gives, which is 0
+ * An answer is a struct by value. It begins with a refusal: number 0 where there is none, else a number from 1 to 15 (README.md, 'The answers by
+ * number'), with the refusal's values in that table's order and 0 for each value that it does not carry. Behind it stands what the call gives, which is 0
  * throughout where the call refuses. A call that refuses changes no byte of a buffer.
  *
- * Bytes are lent as a pointer and a length. The pointer is never NULL, also where the length is 0. What is written to (buf) does not
- * overlap what is read from (src). A span is a part of the bytes that it was read from, or of the src that it is written from. */
+ * Bytes are lent as a pointer and a length. The caller sees to two things, and nothing tests them: no pointer is NULL, also where the length is
+ * 0, and as many bytes stand there as the length says; and what is written to (buf) does not overlap what is read from (src). A span is a part of the bytes that it was read from, or of the src that it is written from. */
 #ifndef BALUNDUWA_H
 #define BALUNDUWA_H
 
@@ -81,7 +81,8 @@ balunduwa_entity_answer balunduwa_entity_read(const uint8_t *buf, size_t buf_len
 /* Writes an entity ID to the front of buf: 5, 10, 2. */
 balunduwa_written balunduwa_entity_write(size_t width, uint64_t value, uint8_t *buf, size_t buf_len);
 
-/* ---- Filestore request and response. The second name is there where has_second is not 0; its span is 0 and 0 where it was read as absent. */
+/* ---- Filestore request and response. Actions: 0 create file, 1 delete file, 2 rename, 3 append, 4 replace, 5 create directory, 6 remove directory,
+ * 7 deny file, 8 deny directory; 2, 3 and 4 have a second name. It is there where has_second is not 0; its span is 0 and 0 where it was read as absent. */
 
 typedef struct {
     uint8_t action;

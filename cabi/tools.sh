@@ -1,15 +1,14 @@
 # Sourced by cabi/test, bench/run and bench/shape, which set `me` to their name and `top` to the repository's root.
 #
 # The archive libcabi.a links only into x86-64 programs. The commands that build, run and count those come from the environment:
-#   BENCH_CARGO    a cargo that builds for x86-64                  else cargo
-#   BENCH_CC       a C compiler for x86-64                         else cc
-#   BENCH_RUN      runs a program                                  else nothing is needed
-#   BENCH_COUNT    runs a program and counts its instructions      else valgrind --tool=callgrind
-#   BENCH_OBJDUMP  disassembles                                    else objdump
-# What stands behind `else` serves on an x86-64 machine. On another one, `../shared/tools/x86-rust DIR` makes DIR/cargo-x86, DIR/cc-x86,
-# DIR/run-x86 and DIR/count-x86. Derive macros and build scripts run on that machine itself, so its own standard library is needed beside them:
-#   apt-get update && apt-get download libstd-rust-web-dev && dpkg-deb -x libstd-rust-web-dev_*.deb DIR/root
-# An objdump for x86-64 is in Debian's binutils-x86-64-linux-gnu.
+#   X86_CARGO    a cargo that builds for x86-64                  else cargo
+#   X86_CC       a C compiler for x86-64                         else cc
+#   X86_RUN      runs a program                                  else nothing is needed
+#   X86_COUNT    runs a program and counts its instructions      else valgrind --tool=callgrind
+#   X86_OBJDUMP  disassembles                                    else objdump
+# What stands behind `else` serves on an x86-64 machine. On another one they have to be given: a cargo and a C compiler that build for x86-64, with a
+# standard library of that machine itself for derive macros and build scripts, and commands that run a program for x86-64 and count its instructions. An
+# objdump for x86-64 is in Debian's binutils-x86-64-linux-gnu.
 # CABI_LIB is an archive libcabi.a to use in the place of the one that `rt staticlib cabi` proves and writes.
 
 stop() {
@@ -23,11 +22,11 @@ needs() { # VARIABLE..
         eval "command=\${$variable-}"
         if [ -z "$command" ] && [ "$(uname -m)" = x86_64 ]; then
             case $variable in
-                BENCH_CARGO) command=cargo ;;
-                BENCH_CC) command=cc ;;
-                BENCH_RUN) command=env ;;
-                BENCH_COUNT) command='valgrind --tool=callgrind --callgrind-out-file=/dev/null' ;;
-                BENCH_OBJDUMP) command=objdump ;;
+                X86_CARGO) command=cargo ;;
+                X86_CC) command=cc ;;
+                X86_RUN) command=env ;;
+                X86_COUNT) command='valgrind --tool=callgrind --callgrind-out-file=/dev/null' ;;
+                X86_OBJDUMP) command=objdump ;;
             esac
         fi
         if [ -z "$command" ]; then
@@ -58,7 +57,7 @@ archive() {
 # cargo for x86-64, over the archive. What it builds goes to target/cargo/x86_64-unknown-linux-gnu.
 x86_cargo() { # VERB ARGUMENTS..
     BALUNDUWA_LIB_DIR=$lib CARGO_TARGET_DIR=$top/target/cargo CARGO_BUILD_TARGET=x86_64-unknown-linux-gnu \
-        CARGO_TARGET_X86_64_UNKNOWN_LINUX_GNU_RUNNER=$BENCH_RUN $BENCH_CARGO "$@"
+        CARGO_TARGET_X86_64_UNKNOWN_LINUX_GNU_RUNNER=$X86_RUN $X86_CARGO "$@"
 }
 
 # The same, with what it says only where it fails. Where it cannot build for the machine itself: one line, and all is left out, with status 0.
@@ -70,7 +69,7 @@ x86_built() { # VERB ARGUMENTS..
     fi
     if grep -q "can't find crate for .\(std\|core\)." "$said"; then
         rm -f "$said"
-        echo "$me: left out: $BENCH_CARGO has no standard library for this machine itself (see cabi/tools.sh)"
+        echo "$me: left out: $X86_CARGO has no standard library for this machine itself (see cabi/tools.sh)"
         exit 0
     fi
     cat "$said" >&2

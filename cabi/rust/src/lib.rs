@@ -1,6 +1,7 @@
 //! The codec and the walk of a CFDP journal, by the proved static library `cabi`.
 //!
-//! Every call takes any arguments. What it refuses it tells as a [`Refusal`], by document 01's number; a writer that refuses has changed no byte.
+//! Every call takes any arguments. What it refuses it tells as a [`Refusal`], by number (README.md of the repository, 'The answers by number'); a writer
+//! that refuses has changed no byte.
 //! A [`Span`] is a part of the bytes that it was read from, or of the `src` that it is written from.
 #![no_std]
 #![deny(unsafe_code)]
@@ -16,7 +17,7 @@ pub const LIMIT: usize = 65536;
 /// Why a call refuses: the number, from 1 to 15, and its values in order, 0 for each that it does not carry.
 #[derive(Debug, Clone, Copy, PartialEq, Eq)]
 pub struct Refusal {
-    /// Document 01's number.
+    /// The number.
     pub number: usize,
     /// The first value.
     pub first: usize,
@@ -69,7 +70,7 @@ pub struct Entity {
 /// A filestore request.
 #[derive(Debug, Clone, Copy, PartialEq, Eq)]
 pub struct Request {
-    /// 0 to 8.
+    /// 0 create file, 1 delete file, 2 rename, 3 append, 4 replace, 5 create directory, 6 remove directory, 7 deny file, 8 deny directory.
     pub action: u8,
     /// The first name.
     pub first_name: Span,

@@ -34,7 +34,7 @@ fn done(request: FilestoreRequestTlv) -> FilestoreResponseTlv {
     }
 }
 
-// Appends the response to a request to the journal of so many bytes, and lists it. The names lie in src.
+// Appends the response to a request to the journal, which is the first `used` bytes of the buffer, and lists what that makes. The names lie in src.
 fn respond(journal: &mut [u8], used: usize, request: FilestoreRequestTlv, src: &[u8]) {
     match repair::append_response(journal, used, done(request), src) {
         Written::Bytes(n) => dump_io::list(&journal[..n]),
@@ -42,7 +42,7 @@ fn respond(journal: &mut [u8], used: usize, request: FilestoreRequestTlv, src: &
     }
 }
 
-// The request is read from a copy of the journal, so that its names can be lent while the journal is written.
+// The request is read from a copy of the journal, so that its names can be lent while the journal is written to.
 fn run(copy: &[u8], journal: &mut [u8]) {
     match repair::first_request(copy) {
         FirstRequest::Found { place, request } => {
