@@ -1,12 +1,12 @@
 //! The cases: an input, the call on each side, and the two answers in one form, by which they are compared.
-use crate::rust;
+use crate::{rust, walks};
 use balunduwa::raw::{self, Span};
 use spacepackets::cfdp::lv::Lv;
 use spacepackets::cfdp::tlv::{FilestoreActionCode, TlvType};
 use std::hint::black_box;
 
 /// What a writer writes to, of a length that the optimiser does not know.
-type Room = &'static mut [u8];
+pub type Room = &'static mut [u8];
 const ROOM: usize = 300;
 
 /// An answer, as numbers, and what was written.
@@ -32,7 +32,11 @@ pub struct Case {
 
 /// A side, of an input that is laid ready, a call, and the answer as numbers. The loop is the same for both sides: the input and the room are a
 /// pointer each, of which the optimiser knows nothing, and so is the answer.
-fn side<I: Copy + 'static, A>(input: I, call: impl Fn(&I, &mut Room) -> A + Copy + 'static, numbers: impl Fn(&I, &A) -> Vec<u64> + 'static) -> Side {
+pub fn side<I: Copy + 'static, A>(
+    input: I,
+    call: impl Fn(&I, &mut Room) -> A + Copy + 'static,
+    numbers: impl Fn(&I, &A) -> Vec<u64> + 'static,
+) -> Side {
     let run = move |rounds| {
         let mut room: Room = vec![0; ROOM].leak();
         for _ in 0..rounds {
@@ -54,12 +58,12 @@ fn call(name: &'static str, ours: Side, rust: Side) -> Case {
 }
 
 /// Bytes that are there as long as the program runs.
-fn kept(bytes: Vec<u8>) -> &'static [u8] {
+pub fn kept(bytes: Vec<u8>) -> &'static [u8] {
     bytes.leak()
 }
 
 /// So many bytes, not all the same.
-fn text(len: usize) -> Vec<u8> {
+pub fn text(len: usize) -> Vec<u8> {
     (0..len).map(|i| b'a' + (i % 26) as u8).collect()
 }
 
@@ -78,7 +82,7 @@ fn second(bytes: &[u8], name: Option<Lv>) -> [u64; 3] {
 }
 
 // A refusal on either side is no answer of a case: all inputs are fine ones.
-fn given(refusal: raw::Refusal) {
+pub fn given(refusal: raw::Refusal) {
     assert_eq!(refusal.number, 0, "a case is refused: {refusal:?}");
 }
 
@@ -307,75 +311,6 @@ fn response_write(name: &'static str, value: Value) -> Case {
     )
 }
 
-/// A whole journal of 64 KiB, and how many records it has: their values have `least` to `least + 6` bytes, in no order; the last ones may have
-/// fewer, and one more.
-fn journal(least: usize) -> (&'static [u8], usize) {
-    let mut bytes = Vec::new();
-    let mut count = 0;
-    let mut random = 1u32;
-    while bytes.len() < balunduwa::LIMIT {
-        random = random.wrapping_mul(1664525).wrapping_add(1013904223);
-        let left = balunduwa::LIMIT - bytes.len() - 2;
-        let mut len = (least + (random >> 16) as usize % 7).min(left);
-        if left - len == 1 {
-            len = if len == 255 { len - 1 } else { len + 1 };
-        }
-        bytes.extend([(random >> 24) as u8 % 7, len as u8]);
-        bytes.extend(text(len));
-        count += 1;
-    }
-    (kept(bytes), count)
-}
-
-/// The walk in one call: a summary, against the Rust's loop.
-fn walk(name: &'static str, least: usize) -> Case {
-    let (journal, count) = journal(least);
-    Case {
-        name,
-        goal: 0.5,
-        per: count,
-        ours: side(
-            journal,
-            |journal, _| raw::walk_summary(journal),
-            |_, a| {
-                given(a.refusal);
-                assert_eq!(a.behind, 0);
-                vec![a.count as u64, a.place as u64]
-            },
-        ),
-        rust: side(journal, |journal, _| rust::walk(journal), |_, (count, place)| vec![*count as u64, *place as u64]),
-    }
-}
-
-/// The walk record by record: a step, against the Rust's reader, each behind a call. Both give the caller every record.
-fn steps(name: &'static str, least: usize) -> Case {
-    let (journal, count) = journal(least);
-    let ours = |journal: &&'static [u8], _: &mut Room| {
-        let (mut count, mut place) = (0, 0);
-        loop {
-            let step = raw::walk_step(journal, place);
-            black_box(&step);
-            if step.refusal.number != 0 || step.what != raw::RECORD {
-                return (count, place);
-            }
-            count += 1;
-            place = step.next;
-        }
-    };
-    let rust = |journal: &&'static [u8], _: &mut Room| {
-        let (mut count, mut place) = (0, 0);
-        loop {
-            let step = rust::tlv_read(&journal[place..]);
-            black_box(&step);
-            let Ok(tlv) = step else { return (count, place) };
-            count += 1;
-            place += tlv.len_full();
-        }
-    };
-    let numbers = |_: &&'static [u8], (count, place): &(usize, usize)| vec![*count as u64, *place as u64];
-    Case { name, goal: 1.0, per: count, ours: side(journal, ours, numbers), rust: side(journal, rust, numbers) }
-}
-
 pub fn cases() -> Vec<Case> {
     let create = Value { action: FilestoreActionCode::CreateFile, first: 16, second: None, message: 16 };
     let rename = Value { action: FilestoreActionCode::RenameFile, first: 16, second: Some(20), message: 16 };
@@ -402,9 +337,9 @@ pub fn cases() -> Vec<Case> {
         response_read("response read, rename", rename),
         response_write("response write, create", create),
         response_write("response write, rename", rename),
-        walk("walk, small records", 0),
-        walk("walk, large records", 249),
-        steps("steps, small records", 0),
-        steps("steps, large records", 249),
+        walks::walk("walk, small records", 0),
+        walks::walk("walk, large records", 249),
+        walks::steps("steps, small records", 0),
+        walks::steps("steps, large records", 249),
     ]
 }

@@ -6,6 +6,7 @@
 //!   bench times              a line for each case: nanoseconds, ours and the Rust's, for a call or a record
 mod cases;
 mod rust;
+mod walks;
 
 use cases::{Case, Side, cases};
 use std::{env, process::exit, time::Instant};
