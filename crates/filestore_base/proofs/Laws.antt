@@ -23,7 +23,7 @@ use Rattle.lv.specs.declared.Lv.{Lv}
 use Rattle.lv.proofs.Laws.{sizeTest-in, sizeTest-passed, spanTest-in, spanTest-passed, Sound, sound, writeTest-passed, partOf-in, length-partOf}
 use Rattle.action.specs.Rules.{codeOf, dueOf}
 use Rattle.filestore_base.specs.Meaning.{Filed, kindOf, isThere, partIf, meaning, partsOf, valueOf, filedTlv}
-use Rattle.filestore_base.specs.Rules.{sizeIf, spanIf, lenIf, dueTest, statusTest, partsTest, lenOf, lengthTest, buildTest, lenValue, lenFull, spansTest, writeTest, writeBase, sameIf, sameOctet, sameParts, sameBase, FitsIf}
+use Rattle.filestore_base.specs.Rules.{sizeIf, spanIf, lenIf, dueTest, partsTest, lenOf, lengthTest, buildTest, lenValue, lenFull, spansTest, writeTest, writeBase, sameIf, sameOctet, sameParts, sameBase, FitsIf}
 use Rattle.filestore_base.specs.declared.SecondName.{SecondName}
 use Rattle.filestore_base.specs.declared.SecondName.the-variants.{There, Absent}
 use Rattle.filestore_base.specs.declared.FilestoreTlvBase.{FilestoreTlvBase}
@@ -52,10 +52,10 @@ module _ (b : FilestoreTlvBase) where
   pub parts : gives tt ≡ partsTest b → Parts b
   unfolding partsTest
   parts e =
-      let p = also-both (sizeTest (b .«first_name»)) (also (sizeIf (b .«second_name»)) (also (sizeIf (b .message)) (also (dueTest (dueOf (b .«action_code»)) (b .«second_name»)) (statusTest (b .«low_bits»))))) tt e in
-      let q = also-both (sizeIf (b .«second_name»)) (also (sizeIf (b .message)) (also (dueTest (dueOf (b .«action_code»)) (b .«second_name»)) (statusTest (b .«low_bits»)))) tt (p .1) in
-      let r = also-both (sizeIf (b .message)) (also (dueTest (dueOf (b .«action_code»)) (b .«second_name»)) (statusTest (b .«low_bits»))) tt (q .1) in
-      let s = also-both (dueTest (dueOf (b .«action_code»)) (b .«second_name»)) (statusTest (b .«low_bits»)) tt (r .1) in
+      let p = also-both (sizeTest (b .«first_name»)) _ tt e in
+      let q = also-both (sizeIf (b .«second_name»)) _ tt (p .1) in
+      let r = also-both (sizeIf (b .message)) _ tt (q .1) in
+      let s = also-both (dueTest (dueOf (b .«action_code»)) (b .«second_name»)) _ tt (r .1) in
       record { first = sizeTest-passed (b .«first_name») (p .0); second = q .0; message = r .0; due = s .0; low = limit-passed 9 15 (b .«low_bits») (s .1) }
 
   pub parts-passed : Parts b → gives tt ≡ partsTest b
@@ -170,8 +170,8 @@ module _ (b : FilestoreTlvBase) (bs : List ℕ) where
   pub spans : gives tt ≡ spansTest b bs → Spans b bs
   unfolding spansTest
   spans e =
-      let p = also-both (spanTest (b .«first_name») bs) (also (spanIf (b .«second_name») bs) (spanIf (b .message) bs)) tt e in
-      let q = also-both (spanIf (b .«second_name») bs) (spanIf (b .message) bs) tt (p .1) in
+      let p = also-both (spanTest (b .«first_name») bs) _ tt e in
+      let q = also-both (spanIf (b .«second_name») bs) _ tt (p .1) in
       record { first = spanTest-passed (b .«first_name») bs (p .0); second = q .0; message = q .1 }
 
   pub spans-passed : Spans b bs → gives tt ≡ spansTest b bs

@@ -4,12 +4,13 @@ use mathlib.Core.Path.{_≡_, refl, sym, ap, subst, _∙_}
 use Prim.Native.Nat.{ℕ, _+_, _≤_}
 use native.Mathlib.Omega.{arith}
 use mathlib.Core.Logic.{_↔_}
-use mathlib.Core.Bool.{Bool, true, false, _&&_}
+use mathlib.Core.Bool.{Bool, true, false, _&&_, true≢false, false≢true}
 use mathlib.Core.Option.{Option, some, none}
 use mathlib.Core.List.{List, []}
 use lib.ListN.{length}
 use lib.Dec.{eqb}
 use borrow.Author.Tests.{eq-eqb, eqb-true}
+use Rattle.bluebook.specs.Layouts.{there}
 use Rattle.refusal.specs.Answer.{gives, also}
 use Rattle.refusal.proofs.Laws.{gives-same, gives-or-refuses, also-both, also-passed}
 use Rattle.splice.specs.Laid.{sameBytes}
@@ -39,8 +40,8 @@ due-there false Absent e = refl
 
 there-due : (d : Bool) (s : SecondName) → isThere s ≡ d → gives tt ≡ dueTest d s
 there-due true (There l) e = refl
-there-due true Absent e = let z : _≡_ {A = ℕ} 0 1 = cc in absurd (omega arith)
-there-due false (There l) e = let z : _≡_ {A = ℕ} 0 1 = cc in absurd (omega arith)
+there-due true Absent e = absurd (false≢true e)
+there-due false (There l) e = absurd (true≢false e)
 there-due false Absent e = refl
 
 small-if : (s : SecondName) → lenIf s ≤ 256 → gives tt ≡ sizeIf s
@@ -104,15 +105,15 @@ written-length b src n bs e =
 
 both : (p q : Bool) → p && q ≡ true → (p ≡ true) × (q ≡ true)
 both true q e = (refl, e)
-both false q e = let z : _≡_ {A = ℕ} 0 1 = cc in absurd (omega arith)
+both false q e = absurd (false≢true e)
 
 same-if : (x y : Option (List ℕ)) → (sameIf x y ≡ true) ↔ (x ≡ y)
 same-if (some v) (some w) = (λ e. ap some (same-equal v w .0 e), λ e. same-equal v w .1 (some-same v w e))
   where
     some-same : (v w : List ℕ) → some v ≡ some w → v ≡ w
     some-same v w e = cc
-same-if (some v) none = (λ e. (let z : _≡_ {A = ℕ} 0 1 = cc in absurd (omega arith)), λ e. (let z : _≡_ {A = ℕ} 0 1 = cc in absurd (omega arith)))
-same-if none (some w) = (λ e. (let z : _≡_ {A = ℕ} 0 1 = cc in absurd (omega arith)), λ e. (let z : _≡_ {A = ℕ} 0 1 = cc in absurd (omega arith)))
+same-if (some v) none = (λ e. absurd (false≢true e), λ e. absurd (true≢false (ap there e)))
+same-if none (some w) = (λ e. absurd (false≢true e), λ e. absurd (false≢true (ap there e)))
 same-if none none = (λ e. refl, λ e. refl)
 
 module _ (b : FilestoreTlvBase) (x : List ℕ) (c : FilestoreTlvBase) (y : List ℕ) where

@@ -2,7 +2,7 @@
 use mathlib.Core.Path.{_≡_, refl, sym, ap, _∙_}
 use Prim.Native.Nat.{ℕ, _+_, _*_, _/_, _%_, _<_}
 use native.Mathlib.Omega.{arith}
-use mathlib.Core.Bool.{Bool, true, false}
+use mathlib.Core.Bool.{Bool, true, false, true≢false, false≢true}
 use mathlib.Core.Option.{Option, some, none}
 use mathlib.Core.List.{List, [], _∷_, _++_, append-assoc}
 use lib.ListN.{length}
@@ -57,8 +57,8 @@ exactly-if d = record { accepts = takes d; only = split d }
   where
     takes : (d : Bool) (s : Option (List ℕ)) (rest : List ℕ) → there s ≡ d → takeIf d (lvIf s ++ rest) ≡ gives (took s rest)
     takes true (some v) rest h = ap (mapA (λ t. took (some (t .got)) (t .rest))) (exactly-lv .accepts v rest tt)
-    takes true none rest h = let z : _≡_ {A = ℕ} 0 1 = cc in absurd (omega arith)
-    takes false (some v) rest h = let z : _≡_ {A = ℕ} 0 1 = cc in absurd (omega arith)
+    takes true none rest h = absurd (false≢true h)
+    takes false (some v) rest h = absurd (true≢false h)
     takes false none rest h = refl
 
     split : (d : Bool) (bs : List ℕ) (t : Took (Option (List ℕ))) → takeIf d bs ≡ gives t → (there (t .got) ≡ d) × (bs ≡ lvIf (t .got) ++ t .rest)
@@ -74,7 +74,7 @@ exactly-second d = record { accepts = takes d; only = split d }
     takes : (d : Bool) (s : Option (List ℕ)) (rest : List ℕ) → there s ≡ d → takeSecond d (lvIf s ++ rest) ≡ gives (took s rest)
     takes false s rest h = exactly-if false .accepts s rest h
     takes true (some v) rest h = exactly-if true .accepts (some v) rest h
-    takes true none rest h = let z : _≡_ {A = ℕ} 0 1 = cc in absurd (omega arith)
+    takes true none rest h = absurd (false≢true h)
 
     split : (d : Bool) (bs : List ℕ) (t : Took (Option (List ℕ))) → takeSecond d bs ≡ gives t → (there (t .got) ≡ d) × (bs ≡ lvIf (t .got) ++ t .rest)
     split false bs t e = exactly-if false .only bs t e

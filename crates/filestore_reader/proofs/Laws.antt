@@ -2,7 +2,7 @@
 use mathlib.Core.Path.{_≡_, refl, sym, ap, _∙_}
 use Prim.Native.Nat.{ℕ, zero, suc, _+_, _-_, _/_, _%_, _≤_, _<_}
 use native.Mathlib.Omega.{arith}
-use mathlib.Core.Bool.{Bool, true, false}
+use mathlib.Core.Bool.{Bool, true, false, true≢false, false≢true}
 use mathlib.Core.Option.{Option, some, none}
 use mathlib.Core.List.{List, [], _∷_}
 use lib.ListN.{length, drop, getD}
@@ -23,7 +23,7 @@ use Rattle.tlv.proofs.Theorems as tlvs
 use Rattle.action.specs.Rules.{codeOf, actionAt, actionOf, dueOf}
 use Rattle.action.specs.declared.FilestoreActionCode.{FilestoreActionCode}
 use Rattle.action.proofs.Laws.{code-back, actionOf-known, actionOf-none}
-use Rattle.filestore_base.specs.Meaning.{Filed, filed, kindOf, baseOf, secondAt, endOf}
+use Rattle.filestore_base.specs.Meaning.{Filed, filed, kindOf, baseOf, isThere, secondAt, endOf}
 use Rattle.filestore_base.specs.declared.SecondName.{SecondName}
 use Rattle.filestore_base.specs.declared.SecondName.the-variants.{There, Absent}
 use Rattle.filestore_base.specs.declared.FilestoreTlvBase.{FilestoreTlvBase}
@@ -64,7 +64,7 @@ unfolding leftBefore
 left-none at end e = go (ltb at end) refl e
   where
     go : (t : Bool) → ltb at end ≡ t → pick t (There (span at (end - at))) Absent ≡ Absent → end ≤ at
-    go true p e = let z : _≡_ {A = ℕ} 0 1 = cc in absurd (omega arith)
+    go true p e = absurd (true≢false (ap isThere e))
     go false p e = ltb-false at end p
 
 pub left-there : (at end : ℕ) (l : Lv) → leftBefore at end ≡ There l → (at < end) × (l .start ≡ at)
@@ -73,7 +73,7 @@ left-there at end l e = go (ltb at end) refl e
   where
     go : (t : Bool) → ltb at end ≡ t → pick t (There (span at (end - at))) Absent ≡ There l → (at < end) × (l .start ≡ at)
     go true p e = let q : span at (end - at) ≡ l = cc in (ltb-true at end p, sym (ap (λ (x : Lv). x .start) q))
-    go false p e = let z : _≡_ {A = ℕ} 0 1 = cc in absurd (omega arith)
+    go false p e = absurd (false≢true (ap isThere e))
 
 pub leftBefore-some : (at end : ℕ) → at < end → leftBefore at end ≡ There (span at (end - at))
 unfolding leftBefore
