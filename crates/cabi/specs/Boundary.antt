@@ -76,8 +76,8 @@ pub record Sent (out : Answer (List ℕ)) (told : WrittenAnswer) (old new : List
 
 -- an LV, a TLV, an entity ID
 
-abbrev pub none : Lv
-none = span 0 0
+abbrev pub noSpan : Lv
+noSpan = span 0 0
 
 abbrev pub spanOf : Lv → Span
 spanOf l = record { start = l .start; len = l .len }
@@ -86,7 +86,7 @@ abbrev pub lvOut : Numbered → Lv → LvAnswer
 lvOut n l = record { refusal = n; value = spanOf l }
 
 abbrev pub lvAnswer : Answer Lv → LvAnswer
-lvAnswer = crossed lvOut none
+lvAnswer = crossed lvOut noSpan
 
 abbrev pub typed : Numbered → ℕ → Lv → TlvAnswer
 typed n kind l = record { refusal = n; «tlv_type» = kind; value = spanOf l }
@@ -95,7 +95,7 @@ abbrev pub tlvOut : Numbered → Tlv → TlvAnswer
 tlvOut n t = typed n (byteOf (t .«tlv_type_field»)) (t .lv)
 
 abbrev pub noTlv : Tlv
-noTlv = tlvOf (Custom 0) none
+noTlv = tlvOf (Custom 0) noSpan
 
 abbrev pub tlvAnswer : Answer Tlv → TlvAnswer
 tlvAnswer = crossed tlvOut noTlv
@@ -114,7 +114,7 @@ hasSecond Absent = 0
 
 abbrev pub secondSpan : SecondName → Span
 secondSpan (There l) = spanOf l
-secondSpan Absent = spanOf none
+secondSpan Absent = spanOf noSpan
 
 abbrev pub requestBy : ℕ → ℕ → Lv → Span → Request
 requestBy action has first second = record { action = action; «has_second» = has; «first_name» = spanOf first; «second_name» = second }
@@ -129,7 +129,7 @@ abbrev pub requestOut : Numbered → FilestoreRequestTlv → RequestAnswer
 requestOut n q = requested n (requestOf q)
 
 abbrev pub noRequest : FilestoreRequestTlv
-noRequest = aRequest CreateFile none Absent
+noRequest = aRequest CreateFile noSpan Absent
 
 abbrev pub requestAnswer : Answer FilestoreRequestTlv → RequestAnswer
 requestAnswer = crossed requestOut noRequest
@@ -156,7 +156,7 @@ abbrev pub responseOut : Numbered → FilestoreResponseTlv → ResponseAnswer
 responseOut n q = responded n (responseOf q)
 
 abbrev pub noResponse : FilestoreResponseTlv
-noResponse = aResponse CreateFile 0 none Absent none
+noResponse = aResponse CreateFile 0 noSpan Absent noSpan
 
 abbrev pub responseAnswer : Answer FilestoreResponseTlv → ResponseAnswer
 responseAnswer = crossed responseOut noResponse
@@ -172,7 +172,7 @@ stepOut n (ended (Whole place)) = stepBy n 1 0 (span place 0) place
 stepOut n (ended (Cut place behind)) = stepBy n 2 0 (span place behind) place
 
 abbrev pub noStep : Standing
-noStep = found (record { place = 0; «tlv_type» = 0; value = none }) 0
+noStep = found (record { place = 0; «tlv_type» = 0; value = noSpan }) 0
 
 abbrev pub stepAnswer : Answer Standing → StepAnswer
 stepAnswer = crossed stepOut noStep

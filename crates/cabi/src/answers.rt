@@ -19,6 +19,7 @@ use filestore_request::FilestoreRequestTlv;
 use filestore_response::FilestoreResponseRead;
 use filestore_response::FilestoreResponseTlv;
 use kind::Kind;
+use lv::Lv;
 use lv::LvRead;
 use refusal::Refusal;
 use refusal::Values;
@@ -38,7 +39,7 @@ ghost use Rattle.filestore_request.specs.Told.{toldRequest};
 ghost use Rattle.filestore_response.specs.Told.{toldResponse};
 ghost use Rattle.walk.specs.Told.{toldStep, toldSummary};
 ghost use Rattle.kind.specs.Told.{toldKind};
-ghost use Rattle.cabi.specs.Boundary.{numbered, hasSecond, secondSpan, requestOf, responseOf, stepBy, kindBy, writtenAnswer, lvAnswer, tlvAnswer, entityAnswer, requestAnswer, responseAnswer, stepAnswer, summaryAnswer, kindAnswer};
+ghost use Rattle.cabi.specs.Boundary.{numbered, noSpan, spanOf, hasSecond, secondSpan, requestOf, responseOf, stepBy, kindBy, writtenAnswer, lvAnswer, tlvAnswer, entityAnswer, requestAnswer, responseAnswer, stepAnswer, summaryAnswer, kindAnswer};
 
 // Where nothing is refused.
 fn none() -> Numbered
@@ -74,6 +75,22 @@ fn refusal(r: Refusal) -> Numbered
     }
 }
 
+// Where there is no value.
+fn no_span() -> Span
+    ensures { λ x. ⌜ x ≡ spanOf noSpan ⌝ }
+{
+    Span { start: 0, len: 0 }
+}
+
+fn span_of(l: Lv) -> Span
+    ensures { λ x. ⌜ x ≡ spanOf l ⌝ }
+{
+    Span {
+        start: l.start,
+        len: l.len,
+    }
+}
+
 fn has_second(s: SecondName) -> u8
     ensures { λ x. ⌜ x ≡ hasSecond s ⌝ }
 {
@@ -87,11 +104,8 @@ fn second_span(s: SecondName) -> Span
     ensures { λ x. ⌜ x ≡ secondSpan s ⌝ }
 {
     match s {
-        SecondName::There(l) => Span {
-            start: l.start,
-            len: l.len,
-        },
-        SecondName::Absent => Span { start: 0, len: 0 },
+        SecondName::There(l) => span_of(l),
+        SecondName::Absent => no_span(),
     }
 }
 
@@ -116,14 +130,11 @@ pub(crate) fn lv(a: LvRead) -> LvAnswer
     match a {
         LvRead::Read(l) => LvAnswer {
             refusal: none(),
-            value: Span {
-                start: l.start,
-                len: l.len,
-            },
+            value: span_of(l),
         },
         LvRead::Refused(r) => LvAnswer {
             refusal: refusal(r),
-            value: Span { start: 0, len: 0 },
+            value: no_span(),
         },
     }
 }
@@ -138,16 +149,13 @@ pub(crate) fn tlv(a: TlvRead) -> TlvAnswer
             TlvAnswer {
                 refusal: none(),
                 tlv_type: field.to_byte(),
-                value: Span {
-                    start: l.start,
-                    len: l.len,
-                },
+                value: span_of(l),
             }
         }
         TlvRead::Refused(r) => TlvAnswer {
             refusal: refusal(r),
             tlv_type: 0,
-            value: Span { start: 0, len: 0 },
+            value: no_span(),
         },
     }
 }
@@ -181,10 +189,7 @@ fn request_of(q: FilestoreRequestTlv) -> Request
     Request {
         action: action.to_code(),
         has_second: has_second(second_name),
-        first_name: Span {
-            start: l.start,
-            len: l.len,
-        },
+        first_name: span_of(l),
         second_name: second_span(second_name),
     }
 }
@@ -200,15 +205,9 @@ fn response_of(q: FilestoreResponseTlv) -> Response
         action: action.to_code(),
         status: q.status_code,
         has_second: has_second(second_name),
-        first_name: Span {
-            start: l.start,
-            len: l.len,
-        },
+        first_name: span_of(l),
         second_name: second_span(second_name),
-        filestore_message: Span {
-            start: m.start,
-            len: m.len,
-        },
+        filestore_message: span_of(m),
     }
 }
 
@@ -225,8 +224,8 @@ pub(crate) fn request(a: FilestoreRequestRead) -> RequestAnswer
             request: Request {
                 action: 0,
                 has_second: 0,
-                first_name: Span { start: 0, len: 0 },
-                second_name: Span { start: 0, len: 0 },
+                first_name: no_span(),
+                second_name: no_span(),
             },
         },
     }
@@ -246,9 +245,9 @@ pub(crate) fn response(a: FilestoreResponseRead) -> ResponseAnswer
                 action: 0,
                 status: 0,
                 has_second: 0,
-                first_name: Span { start: 0, len: 0 },
-                second_name: Span { start: 0, len: 0 },
-                filestore_message: Span { start: 0, len: 0 },
+                first_name: no_span(),
+                second_name: no_span(),
+                filestore_message: no_span(),
             },
         },
     }
@@ -280,10 +279,7 @@ pub(crate) fn step(a: Step) -> StepAnswer
                 refusal: none(),
                 what: 0,
                 tlv_type: record.tlv_type,
-                value: Span {
-                    start: l.start,
-                    len: l.len,
-                },
+                value: span_of(l),
                 next,
             }
         }

@@ -13,7 +13,16 @@ use lv::Lv;
 ghost use mathlib.Core.Path.{_≡_};
 ghost use Rattle.filestore_request.specs.Told.{toldRequest};
 ghost use Rattle.filestore_response.specs.Told.{toldResponse};
-ghost use Rattle.cabi.specs.Boundary.{secondIn, requestGiven, responseGiven};
+ghost use Rattle.cabi.specs.Boundary.{spanIn, secondIn, requestGiven, responseGiven};
+
+pub(crate) fn span_in(s: Span) -> Lv
+    ensures { λ x. ⌜ x ≡ spanIn s ⌝ }
+{
+    Lv {
+        start: s.start,
+        len: s.len,
+    }
+}
 
 fn second(there: u8, s: Span) -> SecondName
     ensures { λ x. ⌜ x ≡ secondIn there s ⌝ }
@@ -21,10 +30,7 @@ fn second(there: u8, s: Span) -> SecondName
     if there == 0 {
         return SecondName::Absent;
     }
-    SecondName::There(Lv {
-        start: s.start,
-        len: s.len,
-    })
+    SecondName::There(span_in(s))
 }
 
 // 7 where there is no such action.
@@ -35,10 +41,7 @@ pub(crate) fn request(q: Request) -> FilestoreRequestRead
     match FilestoreActionCode::from_code(q.action) {
         ActionCodeRead::Read(action_code) => FilestoreRequestRead::Read(FilestoreRequestTlv {
             action_code,
-            first_name: Lv {
-                start: f.start,
-                len: f.len,
-            },
+            first_name: span_in(f),
             second_name: second(q.has_second, q.second_name),
         }),
         ActionCodeRead::Refused(r) => FilestoreRequestRead::Refused(r),
@@ -55,15 +58,9 @@ pub(crate) fn response(q: Response) -> FilestoreResponseRead
         ActionCodeRead::Read(action_code) => FilestoreResponseRead::Read(FilestoreResponseTlv {
             action_code,
             status_code: q.status,
-            first_name: Lv {
-                start: f.start,
-                len: f.len,
-            },
+            first_name: span_in(f),
             second_name: second(q.has_second, q.second_name),
-            filestore_message: Lv {
-                start: m.start,
-                len: m.len,
-            },
+            filestore_message: span_in(m),
         }),
         ActionCodeRead::Refused(r) => FilestoreResponseRead::Refused(r),
     }

@@ -136,10 +136,7 @@ pub extern "C" fn balunduwa_lv_read(buf: &[u8]) -> LvAnswer
 pub extern "C" fn balunduwa_lv_write(value: Span, src: &[u8], buf: &mut [u8]) -> WrittenAnswer
     ensures { λ r. ⌜ Sent (writeLv (spanIn value) (now (src .entry)) (length (now (buf .entry)))) r (now (buf .entry)) (now (buf .exit)) ⌝ }
 {
-    let l = Lv {
-        start: value.start,
-        len: value.len,
-    };
+    let l = arguments::span_in(value);
     answers::written(l.write_to_slice(src, buf))
 }
 
@@ -160,10 +157,7 @@ pub extern "C" fn balunduwa_tlv_write(
 ) -> WrittenAnswer
     ensures { λ r. ⌜ Sent (writeTlv (tlvOf (TlvTypeField.Custom «tlv_type») (spanIn value)) (now (src .entry)) (length (now (buf .entry)))) r (now (buf .entry)) (now (buf .exit)) ⌝ }
 {
-    let lv = Lv {
-        start: value.start,
-        len: value.len,
-    };
+    let lv = arguments::span_in(value);
     let tlv = Tlv {
         tlv_type_field: TlvTypeField::Custom(tlv_type),
         lv,

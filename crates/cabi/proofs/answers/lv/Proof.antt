@@ -1,6 +1,7 @@
 -- `cabi::answers::lv` meets its contract: each case crosses as it is told. Assumes nothing.
+use mathlib.Core.Path.{_∙_}
 use Rattle.lv.specs.Told.{toldLv}
-use Rattle.cabi.specs.Boundary.{lvOut, none}
+use Rattle.cabi.specs.Boundary.{lvOut, noSpan}
 use Rattle.cabi.proofs.Laws.{told-out}
 use borrow.Author.Needs.{needs}
 use Rattle.cabi.proofs.answers.lv.Statement.{statement}
@@ -12,19 +13,27 @@ enum-known-a c = search needs
 none-requires : tie.Need-none-requires
 none-requires c κs = search needs
 
+span-of-requires : tie.Need-span-of-requires
+span-of-requires c κs = search needs
+
 enum-known-a-2 : tie.Need-enum-known-a-2
 enum-known-a-2 c = search needs
 
 refusal-requires : tie.Need-refusal-requires
 refusal-requires c κs = search needs
 
+no-span-requires : tie.Need-no-span-requires
+no-span-requires c κs = search needs
+
 returns : tie.Need-returns
-returns c = told-out lvOut none toldLv _ _ (c .none .ensures) (c .before .before .a .given .1)
+returns c = (λ i. record { refusal = c .before .none .result; value = c .span-of .ensures i })
+    ∙ told-out lvOut noSpan toldLv _ _ (c .before .none .ensures) (c .before .before .before .a .given .1)
 
 returns-2 : tie.Need-returns-2
-returns-2 c = told-out lvOut none toldLv _ _ (c .refusal .ensures) (c .before .before .a2 .given .1)
+returns-2 c = (λ i. record { refusal = c .before .refusal .result; value = c .no-span .ensures i })
+    ∙ told-out lvOut noSpan toldLv _ _ (c .before .refusal .ensures) (c .before .before .before .a2 .given .1)
 
 pub lv-spec : {M : Type 1} → statement M
 lv-spec =
     tie.close
-    (tie.spec enum-known-a none-requires enum-known-a-2 refusal-requires returns returns-2)
+    (tie.spec enum-known-a none-requires span-of-requires enum-known-a-2 refusal-requires no-span-requires returns returns-2)

@@ -1,5 +1,4 @@
 -- `cabi::answers::request_of` meets its contract: its parts are those of the request. Assumes nothing.
-use Rattle.cabi.specs.Boundary.{requestBy}
 use borrow.Author.Needs.{needs}
 use Rattle.cabi.proofs.answers.request_of.Statement.{statement}
 use Rattle.cabi.proofs.answers.request_of.Tie as tie
@@ -10,12 +9,20 @@ to-code-requires c κs = search needs
 has-second-requires : tie.Need-has-second-requires
 has-second-requires c κs = search needs
 
+span-of-requires : tie.Need-span-of-requires
+span-of-requires c κs = search needs
+
 second-span-requires : tie.Need-second-span-requires
 second-span-requires c κs = search needs
 
 returns : tie.Need-returns
-returns c = λ i. requestBy (c .before .before .to-code .ensures i) (c .before .has-second .ensures i) (c .before .before .before .before .args .q .«first_name») (c .second-span .ensures i)
+returns c = λ i. record {
+  action = c .before .before .before .to-code .ensures i;
+  «has_second» = c .before .before .has-second .ensures i;
+  «first_name» = c .before .span-of .ensures i;
+  «second_name» = c .second-span .ensures i;
+}
 
 pub request-of-spec : {M : Type 1} → statement M
 request-of-spec =
-    tie.close (tie.spec to-code-requires has-second-requires second-span-requires returns)
+    tie.close (tie.spec to-code-requires has-second-requires span-of-requires second-span-requires returns)

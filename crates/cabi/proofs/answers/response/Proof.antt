@@ -23,12 +23,22 @@ enum-known-a-2 c = search needs
 refusal-requires : tie.Need-refusal-requires
 refusal-requires c κs = search needs
 
+no-span-requires : tie.Need-no-span-requires
+no-span-requires c κs = search needs
+
+no-span-requires-2 : tie.Need-no-span-requires-2
+no-span-requires-2 c κs = search needs
+
+no-span-requires-3 : tie.Need-no-span-requires-3
+no-span-requires-3 c κs = search needs
+
 returns : tie.Need-returns
 returns c = ap (λ (q : Response). responded (c .before .none .result) q) (c .response-of .ensures)
     ∙ told-out responseOut noResponse toldResponse _ _ (c .before .none .ensures) (c .before .before .before .a .given .1)
 
 returns-2 : tie.Need-returns-2
-returns-2 c = told-out responseOut noResponse toldResponse _ _ (c .refusal .ensures) (c .before .before .a2 .given .1)
+returns-2 c = (λ i. responded (c .before .before .before .refusal .result) (record { action = 0; status = 0; «has_second» = 0; «first_name» = c .before .before .no-span .ensures i; «second_name» = c .before .no-span2 .ensures i; «filestore_message» = c .no-span3 .ensures i }))
+    ∙ told-out responseOut noResponse toldResponse _ _ (c .before .before .before .refusal .ensures) (c .before .before .before .before .before .a2 .given .1)
 
 pub response-spec : {M : Type 1} → statement M
 response-spec =
@@ -39,5 +49,8 @@ response-spec =
     response-of-requires
     enum-known-a-2
     refusal-requires
+    no-span-requires
+    no-span-requires-2
+    no-span-requires-3
     returns
     returns-2)

@@ -19,6 +19,9 @@ enum-known-a c = search needs
 none-requires : tie.Need-none-requires
 none-requires c κs = search needs
 
+span-of-requires : tie.Need-span-of-requires
+span-of-requires c κs = search needs
+
 enum-known-a-2 : tie.Need-enum-known-a-2
 enum-known-a-2 c = search needs
 
@@ -50,7 +53,10 @@ at-requires-3 : tie.Need-at-requires-3
 at-requires-3 c κs = search needs
 
 returns : tie.Need-returns
-returns c = told-out stepOut noStep toldStep _ _ (c .none .ensures) (c .before .before .before .a .given .1)
+returns c =
+    let r = c .before .before .before .before .a .given .0 in
+    (λ i. record { refusal = c .before .none .result; what = 0; «tlv_type» = r .0 .«tlv_type»; value = c .span-of .ensures i; next = r .1 .0 })
+    ∙ told-out stepOut noStep toldStep _ _ (c .before .none .ensures) (c .before .before .before .before .a .given .1)
 
 returns-2 : tie.Need-returns-2
 returns-2 c = c .at .ensures ∙ told-out stepOut noStep toldStep _ _ (c .before .none2 .ensures) (ended (c .before .before .before .before .before .before .a2 .given .1) (c .before .before .before .end .given .1))
@@ -67,6 +73,7 @@ step-spec =
     (tie.spec
     enum-known-a
     none-requires
+    span-of-requires
     enum-known-a-2
     enum-known-end
     none-requires-2
