@@ -88,11 +88,8 @@ lvOut n l = record { refusal = n; value = spanOf l }
 abbrev pub lvAnswer : Answer Lv → LvAnswer
 lvAnswer = crossed lvOut noSpan
 
-abbrev pub typed : Numbered → ℕ → Lv → TlvAnswer
-typed n kind l = record { refusal = n; «tlv_type» = kind; value = spanOf l }
-
 abbrev pub tlvOut : Numbered → Tlv → TlvAnswer
-tlvOut n t = typed n (byteOf (t .«tlv_type_field»)) (t .lv)
+tlvOut n t = record { refusal = n; «tlv_type» = byteOf (t .«tlv_type_field»); value = spanOf (t .lv) }
 
 abbrev pub noTlv : Tlv
 noTlv = tlvOf (Custom 0) noSpan
@@ -116,11 +113,13 @@ abbrev pub secondSpan : SecondName → Span
 secondSpan (There l) = spanOf l
 secondSpan Absent = spanOf noSpan
 
-abbrev pub requestBy : ℕ → ℕ → Lv → Span → Request
-requestBy action has first second = record { action = action; «has_second» = has; «first_name» = spanOf first; «second_name» = second }
-
 abbrev pub requestOf : FilestoreRequestTlv → Request
-requestOf q = requestBy (codeOf (q .«action_code»)) (hasSecond (q .«second_name»)) (q .«first_name») (secondSpan (q .«second_name»))
+requestOf q = record {
+  action = codeOf (q .«action_code»);
+  «has_second» = hasSecond (q .«second_name»);
+  «first_name» = spanOf (q .«first_name»);
+  «second_name» = secondSpan (q .«second_name»);
+}
 
 abbrev pub requested : Numbered → Request → RequestAnswer
 requested n q = record { refusal = n; request = q }
@@ -134,20 +133,15 @@ noRequest = aRequest CreateFile noSpan Absent
 abbrev pub requestAnswer : Answer FilestoreRequestTlv → RequestAnswer
 requestAnswer = crossed requestOut noRequest
 
-abbrev pub responseBy : ℕ → ℕ → ℕ → Lv → Span → Lv → Response
-responseBy action status has first second message = record {
-  action = action;
-  status = status;
-  «has_second» = has;
-  «first_name» = spanOf first;
-  «second_name» = second;
-  «filestore_message» = spanOf message;
-}
-
 abbrev pub responseOf : FilestoreResponseTlv → Response
-responseOf q =
-    responseBy (codeOf (q .«action_code»)) (q .«status_code») (hasSecond (q .«second_name»)) (q .«first_name») (secondSpan (q .«second_name»))
-    (q .«filestore_message»)
+responseOf q = record {
+  action = codeOf (q .«action_code»);
+  status = q .«status_code»;
+  «has_second» = hasSecond (q .«second_name»);
+  «first_name» = spanOf (q .«first_name»);
+  «second_name» = secondSpan (q .«second_name»);
+  «filestore_message» = spanOf (q .«filestore_message»);
+}
 
 abbrev pub responded : Numbered → Response → ResponseAnswer
 responded n q = record { refusal = n; response = q }

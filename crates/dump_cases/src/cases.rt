@@ -2,30 +2,9 @@
 use crate::lines;
 use crate::notation;
 use crate::sum;
-ghost use mathlib.Core.Path.{_≡_};
-ghost use Prim.Native.Nat.{_≤_};
-ghost use lib.ListN.{length};
-
-// Room for a journal. The clause is what lending the array as a slice needs.
-fn room() -> [u8; 66000]
-    ensures { λ r. ⌜ 66000 ≡ length r ⌝ }
-{
-    [0; 66000]
-}
-
-// The place of the first space or line end, or the length.
-fn word_end(line: &[u8]) -> usize
-    ensures { λ r. ⌜ r ≤ length (now (line .entry)) ⌝ }
-{
-    let mut i: usize = 0;
-    while i < line.len() {
-        if line[i] <= b' ' {
-            return i;
-        }
-        i += 1;
-    }
-    i
-}
+use test_text::find;
+use test_text::part;
+use test_text::room;
 
 fn bad() {
     lines::say(b"bad case\n");
@@ -41,12 +20,13 @@ fn answer_word(word: &[u8], journal: &[u8]) {
     bad();
 }
 
+// A line without its line end.
 pub fn answer(line: &[u8]) {
-    let end = word_end(line);
+    let end = find(line, b' ', 0);
     let mut journal = room();
-    let n = notation::read(&line[end..], &mut journal);
+    let n = notation::read(part(line, end, line.len()), &mut journal);
     if 66000 < n {
         return bad();
     }
-    answer_word(&line[0..end], &journal[0..n]);
+    answer_word(part(line, 0, end), &journal[0..n]);
 }

@@ -1,6 +1,8 @@
 // Cuts the input into lines, and has each answered.
 use crate::cases;
-ghost use Prim.Native.Nat.{_≤_, _<_};
+use test_text::find;
+use test_text::part;
+ghost use Prim.Native.Nat.{_<_};
 ghost use lib.ListN.{length};
 
 pub fn say(text: &[u8]) {
@@ -9,18 +11,13 @@ pub fn say(text: &[u8]) {
 
 // The place behind the line that starts at a place, which is behind its line end, or at the end of the text.
 pub fn line_end(text: &[u8], from: usize) -> usize
-    requires { ⌜ from ≤ length (now text) ⌝ }
-    ensures { λ r. ⌜ r ≤ length (now (text .entry)) ⌝ }
     ensures { λ r. ⌜ (from < length (now (text .entry)) → from < r) ⌝ }
 {
-    let mut i = from;
-    while i < text.len() {
-        if text[i] == b'\n' {
-            return i + 1;
-        }
-        i += 1;
+    let end = find(text, b'\n', from);
+    if end < text.len() {
+        return end + 1;
     }
-    i
+    end
 }
 
 fn answer(line: &[u8]) {
@@ -30,7 +27,7 @@ fn answer(line: &[u8]) {
     if line[0] == b'#' {
         return say(line);
     }
-    cases::answer(line);
+    cases::answer(part(line, 0, find(line, b'\n', 0)));
 }
 
 // Each line in its turn.
@@ -38,7 +35,7 @@ pub fn run(input: &[u8]) {
     let mut at: usize = 0;
     while at < input.len() {
         let end = line_end(input, at);
-        answer(&input[at..end]);
+        answer(part(input, at, end));
         at = end;
     }
 }

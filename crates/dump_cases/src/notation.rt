@@ -1,5 +1,6 @@
 // The notation for a journal's bytes: groups with a space before each. A group is pairs of hexadecimal digits, and `*COUNT` behind them where it
 // stands COUNT times.
+use test_text::nibble;
 
 // A count of bytes that no buffer holds. It stands for text that is not in the notation, too.
 const TOO_MANY: usize = usize::MAX;
@@ -12,15 +13,6 @@ struct Groups {
     high: u8,
     starred: bool,
     count: usize,
-}
-
-// A hexadecimal digit's number, or 16.
-fn nibble(x: u8) -> u8 {
-    match x {
-        b'0'..=b'9' => x - 48,
-        b'a'..=b'f' => x - 87,
-        _ => 16,
-    }
 }
 
 // Has the bytes from group up to n stand count times in a row. Answers how many bytes stand in buf then, or TOO_MANY.
@@ -109,7 +101,7 @@ impl Groups {
     // With one more byte of the text.
     fn with(self, sign: u8, buf: &mut [u8]) -> Groups {
         match sign {
-            b' ' | b'\n' => self.with_end(buf),
+            b' ' => self.with_end(buf),
             b'*' => self.with_star(),
             _ => {
                 if self.starred {

@@ -4,6 +4,7 @@ use listing::At;
 use listing::Filled;
 use listing::fill;
 use std::num::wrapping_add_usize;
+use test_text::part;
 
 // The largest prime below two to the 32.
 const MODULUS: u64 = 4294967291;
@@ -86,7 +87,7 @@ fn say_number(what: &[u8], x: u64) {
 fn say_first_lines(text: &[u8]) {
     let second = lines::line_end(text, 0);
     let end = lines::line_end(text, second);
-    lines::say(&text[0..end]);
+    lines::say(part(text, 0, end));
 }
 
 fn say_last_line(text: &[u8]) {
@@ -96,7 +97,7 @@ fn say_last_line(text: &[u8]) {
         start = at;
         at = lines::line_end(text, at);
     }
-    lines::say(&text[start..]);
+    lines::say(part(text, start, text.len()));
 }
 
 fn say_start(journal: &[u8], out: &mut [u8]) {

@@ -1,5 +1,6 @@
 // One walk against the list: each record that is due stands at its place, then the end, and the summary says the same.
-use crate::part;
+use crate::sums;
+use test_text::part;
 use walk::End;
 use walk::Record;
 use walk::Step;
@@ -67,13 +68,13 @@ fn found(s: &[u8], r: Record, next: usize, place: usize, end: usize, g: Given, a
     if r.tlv_type != g.tlv_type {
         return TYPE;
     }
-    if v.start != part::sum(place, 2) || v.len != g.len {
+    if v.start != sums::sum(place, 2) || v.len != g.len {
         return SPAN;
     }
-    if next != end || next != part::sum(v.start, v.len) {
+    if next != end || next != sums::sum(v.start, v.len) {
         return NEXT;
     }
-    if !splice::same(r.value(s), part::of(a, g.start, part::sum(g.start, g.len))) {
+    if !splice::same(r.value(s), part(a, g.start, sums::sum(g.start, g.len))) {
         return VALUE;
     }
     NOTHING
@@ -146,7 +147,7 @@ impl Told {
         self.place == place
             && self.whole == (self.behind == 0)
             && self.behind < 257
-            && part::sum(self.place, self.behind) == n
+            && sums::sum(self.place, self.behind) == n
     }
 }
 

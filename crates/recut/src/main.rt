@@ -11,13 +11,14 @@
 //
 // In all modules a is the journal as the list has it, laid out by counting, and ends are the ends of its records; b is the journal that is
 // written, cut and appended to. The modules, from the input on: list (reads it), cuts (writes, cuts and appends), check (one walk against the
-// list), say, part.
+// list), say, sums.
 mod check;
 mod cuts;
 mod list;
-mod part;
 mod say;
+mod sums;
 
+use test_text::part;
 ghost use mathlib.Core.Path.{_≡_};
 ghost use lib.ListN.{length};
 
@@ -34,7 +35,7 @@ fn run(a: &[u8], ends: &[usize], n: usize) {
     if !cuts::written(a, ends, &mut b) {
         return say::not_written();
     }
-    let checksum = part::checksum(part::of(&b, 0, n));
+    let checksum = sums::checksum(part(&b, 0, n));
     say::tried(ends.len(), n, checksum, cuts::all(a, ends, n, &mut b));
 }
 
@@ -43,7 +44,7 @@ fn main() {
     let size = io::read_full(libc::STDIN_FILENO, &mut text);
     let mut a = io::large_buffer();
     let mut ends = ends_room();
-    let list = list::read(part::of(&text, 0, size), &mut a, &mut ends);
+    let list = list::read(part(&text, 0, size), &mut a, &mut ends);
     let count = list.count;
     if list.bad || 65535 < size {
         return say::bad_list(list.at);

@@ -1,7 +1,7 @@
 // What the program says.
 use crate::check;
 use crate::cuts::Totals;
-use crate::part;
+use crate::sums;
 use replay_answers::count;
 use replay_answers::text;
 
@@ -35,7 +35,7 @@ fn difference(what: u8) {
 }
 
 pub fn tried(count: usize, n: usize, checksum: usize, t: Totals) {
-    let cuts = part::sum(t.whole, t.cut);
+    let cuts = sums::sum(t.whole, t.cut);
     line(count, b" records\n");
     line(n, b" bytes\n");
     line(checksum, b" is their checksum\n");

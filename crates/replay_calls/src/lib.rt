@@ -9,8 +9,9 @@ mod sames;
 mod values;
 mod writers;
 
+use test_text::room;
+use test_text::short_room;
 ghost use mathlib.Core.Path.{_≡_};
-ghost use lib.ListN.{length};
 
 // The last nine numbers among the words, in order: a call of two numbers has them in n8 and n9. A type field is a number, and a second name
 // is three: 1 where it is there, its start and its length.
@@ -52,19 +53,6 @@ fn of_source(call: usize, kind: u8, w: Words, a: &[u8]) {
         b'n' => replay_answers::number(number::read(a)),
         _ => of_values(call, kind, w),
     }
-}
-
-// Room for a buffer, short or of any length. The clause is what lending the array as a slice needs.
-fn short_room() -> [u8; 512]
-    ensures { λ r. ⌜ 512 ≡ length r ⌝ }
-{
-    [0; 512]
-}
-
-fn room() -> [u8; 66000]
-    ensures { λ r. ⌜ 66000 ≡ length r ⌝ }
-{
-    [0; 66000]
 }
 
 // Writes to b, and says it with the answer.

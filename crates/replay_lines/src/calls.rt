@@ -3,26 +3,13 @@
 use crate::args::Args;
 use crate::names;
 use crate::notation;
-use crate::text;
-ghost use mathlib.Core.Path.{_≡_};
-ghost use lib.ListN.{length};
-
-// Room for a bytes argument, short or of any length. The clause is what lending the array as a slice needs.
-fn short_room() -> [u8; 512]
-    ensures { λ r. ⌜ 512 ≡ length r ⌝ }
-{
-    [0; 512]
-}
-
-fn room() -> [u8; 66000]
-    ensures { λ r. ⌜ 66000 ≡ length r ⌝ }
-{
-    [0; 66000]
-}
+use test_text::part;
+use test_text::room;
+use test_text::short_room;
 
 fn with_long_buffer(line: &[u8], args: Args, a: &[u8]) {
     let mut b = room();
-    let n = notation::read(text::part(line, args.buffer, args.buffer_end), &mut b);
+    let n = notation::read(part(line, args.buffer, args.buffer_end), &mut b);
     if 66000 < n {
         return replay_answers::bad();
     }
@@ -31,7 +18,7 @@ fn with_long_buffer(line: &[u8], args: Args, a: &[u8]) {
 
 fn with_source(line: &[u8], args: Args, a: &[u8]) {
     let mut b = short_room();
-    let n = notation::read(text::part(line, args.buffer, args.buffer_end), &mut b);
+    let n = notation::read(part(line, args.buffer, args.buffer_end), &mut b);
     if 512 < n {
         return with_long_buffer(line, args, a);
     }
@@ -48,7 +35,7 @@ fn answered(line: &[u8], args: Args, a: &[u8]) {
 
 fn with_long_source(line: &[u8], args: Args) {
     let mut a = room();
-    let n = notation::read(text::part(line, args.source, args.source_end), &mut a);
+    let n = notation::read(part(line, args.source, args.source_end), &mut a);
     if 66000 < n {
         return replay_answers::bad();
     }
@@ -58,7 +45,7 @@ fn with_long_source(line: &[u8], args: Args) {
 pub(crate) fn answer(line: &[u8]) {
     let args = names::read(line);
     let mut a = short_room();
-    let n = notation::read(text::part(line, args.source, args.source_end), &mut a);
+    let n = notation::read(part(line, args.source, args.source_end), &mut a);
     if 512 < n {
         return with_long_source(line, args);
     }

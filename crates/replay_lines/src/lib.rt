@@ -1,13 +1,12 @@
 // What the programs replay and recorded do: they answer the cases on standard input, one a line. The format is in the program replay.
 // The modules, from the input on: lines (cuts it), calls (answers a case), names (the list of the calls), args and word (read the arguments),
-// notation (reads bytes), text. The crates replay_calls and, for the walk, replay_walk make the calls, and replay_answers says what they answer.
+// notation (reads bytes). The crates replay_calls and, for the walk, replay_walk make the calls, and replay_answers says what they answer.
 // What is written is not stated: a function here answers nothing and changes nothing that is lent.
 mod args;
 mod calls;
 mod lines;
 mod names;
 mod notation;
-mod text;
 mod word;
 
 ghost use mathlib.Core.Path.{_≡_};
@@ -26,7 +25,7 @@ pub fn run_input()
 {
     let mut input = input_room();
     let n = io::read_full(libc::STDIN_FILENO, &mut input);
-    lines::run(text::part(&input, 0, n));
+    lines::run(test_text::part(&input, 0, n));
     if n == 131072 {
         replay_answers::too_long();
     }

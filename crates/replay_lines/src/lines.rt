@@ -1,6 +1,7 @@
 // Cuts the input into lines, and writes each back with its answer.
 use crate::calls;
-use crate::text;
+use test_text::find;
+use test_text::part;
 
 // Whether a line is copied as it is: it is empty, or a comment.
 fn copied(line: &[u8]) -> bool {
@@ -24,8 +25,8 @@ fn answered(line: &[u8]) {
 pub(crate) fn run(input: &[u8]) {
     let mut at: usize = 0;
     while at < input.len() {
-        let end = text::find(input, b'\n', at);
-        answered(text::part(input, at, end));
+        let end = find(input, b'\n', at);
+        answered(part(input, at, end));
         if input.len() <= end {
             return;
         }

@@ -3,7 +3,8 @@
 // table of its type of answer. A new type of answer is a new letter, with an arm in `replay_calls`.
 // A call of the walk has no constant: its entry stands behind the last one, its letter is a digit, and its arm is in `replay_walk::say`.
 use crate::args::Args;
-use crate::text;
+use test_text::find;
+use test_text::part;
 
 // Reads a line: its name up to the first space, and its words by the letters that stand behind the name in the list.
 // The first of them is a small one, the type of answer, as `replay_calls::say` has it, or a digit, the call, as `replay_walk::say` has it.
@@ -41,7 +42,37 @@ record.to_tlv 7NONN|record.value 8NONNS|record.span_test 9NONNS|walker.first 0S"
 }
 
 fn read_by(line: &[u8], list: &[u8]) -> Args {
-    let end = text::find(line, b' ', 0);
-    let e = text::looked_up(list, text::part(line, 0, end));
-    Args::read(line, end, text::part(list, e.space, e.end), e.place)
+    let end = find(line, b' ', 0);
+    let e = looked_up(list, part(line, 0, end));
+    Args::read(line, end, part(list, e.space, e.end), e.place)
+}
+
+// An entry of a list: which it is, counted from 0, and the places of the space behind its name and of its end.
+struct Entry {
+    place: usize,
+    space: usize,
+    end: usize,
+}
+
+// Looks a name up in a list of entries `NAME TEXT` with bars between them. Without such a name the place is one that no entry has.
+fn looked_up(list: &[u8], name: &[u8]) -> Entry {
+    let mut place: usize = 0;
+    let mut at: usize = 0;
+    while at < list.len() {
+        let end = find(list, b'|', at);
+        let space = find(list, b' ', at);
+        if splice::same(name, part(list, at, space)) {
+            return Entry { place, space, end };
+        }
+        if list.len() <= end {
+            break;
+        }
+        place += 1;
+        at = end + 1;
+    }
+    Entry {
+        place: list.len(),
+        space: 0,
+        end: 0,
+    }
 }

@@ -2,6 +2,7 @@
 // or one pair with `*COUNT` behind it, which stands for that byte COUNT times.
 use crate::word;
 use crate::word::Decimal;
+use test_text::nibble;
 
 // A count of bytes that no buffer holds. It stands for text that is not in the notation, too.
 pub const TOO_MANY: usize = usize::MAX;
@@ -33,13 +34,11 @@ struct Piece {
     times: usize,
 }
 
-// A hexadecimal digit's number, or 16.
-fn nibble(x: u8) -> u8 {
+// A letter from A to F as a small one.
+fn small(x: u8) -> u8 {
     match x {
-        b'0'..=b'9' => x - 48,
-        b'a'..=b'f' => x - 87,
-        b'A'..=b'F' => x - 55,
-        _ => 16,
+        b'A'..=b'F' => x + 32,
+        _ => x,
     }
 }
 
@@ -109,7 +108,7 @@ impl Piece {
             }
             _ => {
                 if self.ended < STAR {
-                    self.with_digit(nibble(sign))
+                    self.with_digit(nibble(small(sign)))
                 } else {
                     self.counted(nibble(sign))
                 }

@@ -1,13 +1,13 @@
 -- A line ends behind its start, so what is left of the input falls. Assumes nothing.
 use borrow.Author.Needs.{needs}
-use Prim.Native.Nat.{_≤_, _-_}
+use Prim.Native.Nat.{_-_}
 use lib.ListN.{length}
 use native.Mathlib.Omega.{arith}
 use Rattle.dump_cases.proofs.lines.run.Statement.{statement}
 use Rattle.dump_cases.proofs.lines.run.Tie as tie
 
 abbrev Inv-loop : tie.InvT-loop
-Inv-loop input at₀ at = at ≤ length input
+Inv-loop input at₀ at = Unit
 
 abbrev μ-loop : tie.MeasureT-loop
 μ-loop input at₀ at = length input - at
@@ -18,20 +18,14 @@ loop-holds c = search needs
 line-end-requires : tie.Need-line-end-requires Inv-loop μ-loop
 line-end-requires c κs = search needs
 
-sub-answer : tie.Need-sub-answer Inv-loop μ-loop
-sub-answer c = omega (arith, c .line-end .ensures .1 (omega arith))
-
-part-answer-start : tie.Need-part-answer-start Inv-loop μ-loop
-part-answer-start c = omega (arith, c .line-end .ensures .1 (omega arith))
-
-part-answer-end : tie.Need-part-answer-end Inv-loop μ-loop
-part-answer-end c = search needs
+part-requires : tie.Need-part-requires Inv-loop μ-loop
+part-requires c κs = search needs
 
 answer-requires : tie.Need-answer-requires Inv-loop μ-loop
 answer-requires c κs = search needs
 
 loop-less : tie.Need-loop-less Inv-loop μ-loop
-loop-less c = omega (arith, c .before .before .line-end .ensures .1 (omega arith))
+loop-less c = omega (arith, c .before .before .line-end .ensures (omega arith))
 
 loop-again : tie.Need-loop-again Inv-loop μ-loop
 loop-again c = search needs
@@ -47,9 +41,7 @@ run-spec =
     μ-loop
     loop-holds
     line-end-requires
-    sub-answer
-    part-answer-start
-    part-answer-end
+    part-requires
     answer-requires
     loop-less
     loop-again

@@ -1,13 +1,13 @@
 -- A line ends behind its start, so what is left of the text falls. Assumes nothing.
 use borrow.Author.Needs.{needs}
-use Prim.Native.Nat.{_≤_, _-_}
+use Prim.Native.Nat.{_-_}
 use lib.ListN.{length}
 use native.Mathlib.Omega.{arith}
 use Rattle.dump_cases.proofs.sum.line_count.Statement.{statement}
 use Rattle.dump_cases.proofs.sum.line_count.Tie as tie
 
 abbrev Inv-loop : tie.InvT-loop
-Inv-loop text count₀ at₀ count at = at ≤ length text
+Inv-loop text count₀ at₀ count at = Unit
 
 abbrev μ-loop : tie.MeasureT-loop
 μ-loop text count₀ at₀ count at = length text - at
@@ -22,7 +22,7 @@ wrapping-add-usize-requires : tie.Need-wrapping-add-usize-requires Inv-loop μ-l
 wrapping-add-usize-requires c κs = search needs
 
 loop-less : tie.Need-loop-less Inv-loop μ-loop
-loop-less c = omega (arith, c .before .line-end .ensures .1 (omega arith))
+loop-less c = omega (arith, c .before .line-end .ensures (omega arith))
 
 loop-again : tie.Need-loop-again Inv-loop μ-loop
 loop-again c = search needs

@@ -7,8 +7,8 @@ use Rattle.replay_lines.proofs.lines.run.Tie as tie
 use Rattle.replay_lines.proofs.lines.run.Reads as reads
 use Rattle.replay_lines.proofs.lines.run.Lts as lts
 use Rattle.replay_lines.proofs.lines.answered.Reads as answered-reads
-use Rattle.replay_lines.proofs.text.find.Reads as find-reads
-use Rattle.replay_lines.proofs.text.part.Reads as part-reads
+use Rattle.test_text.proofs.find.Reads as find-reads
+use Rattle.test_text.proofs.part.Reads as part-reads
 
 abbrev Inv-loop : tie.InvT-loop
 Inv-loop input at₀ at = Unit

@@ -2,12 +2,12 @@
 use borrow.Author.Needs.{needs}
 use Prim.Native.Nat.{_≤_, _-_}
 use lib.ListN.{length}
-use Rattle.replay_lines.proofs.text.looked_up.Statement.{statement}
-use Rattle.replay_lines.proofs.text.looked_up.Tie as tie
-use Rattle.replay_lines.proofs.text.looked_up.Reads as reads
-use Rattle.replay_lines.proofs.text.looked_up.Lts as lts
-use Rattle.replay_lines.proofs.text.find.Reads as find-reads
-use Rattle.replay_lines.proofs.text.part.Reads as part-reads
+use Rattle.replay_lines.proofs.names.looked_up.Statement.{statement}
+use Rattle.replay_lines.proofs.names.looked_up.Tie as tie
+use Rattle.replay_lines.proofs.names.looked_up.Reads as reads
+use Rattle.replay_lines.proofs.names.looked_up.Lts as lts
+use Rattle.test_text.proofs.find.Reads as find-reads
+use Rattle.test_text.proofs.part.Reads as part-reads
 use Rattle.splice.proofs.same.Reads as same-reads
 
 abbrev Inv-loop : tie.InvT-loop

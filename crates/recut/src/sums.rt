@@ -1,15 +1,4 @@
-// Small steps that stand any arguments: a part of bytes, their checksum, and a sum of two numbers.
-
-// The bytes from start up to end, or none where there is no such part.
-pub fn of(s: &[u8], start: usize, end: usize) -> &[u8] {
-    if end < start {
-        return &s[..0];
-    }
-    if s.len() < end {
-        return &s[..0];
-    }
-    &s[start..end]
-}
+// A checksum and a sum, which stand any arguments.
 
 // A number that tells bytes from others: each of them counts, and so does its place.
 pub fn checksum(s: &[u8]) -> usize {

@@ -3,8 +3,8 @@ use borrow.Author.Needs.{needs}
 use Prim.Native.Nat.{_-_, _<_}
 use native.Mathlib.Omega.{arith}
 use lib.ListN.{length}
-use Rattle.recut.proofs.part.checksum.Statement.{statement}
-use Rattle.recut.proofs.part.checksum.Tie as tie
+use Rattle.recut.proofs.sums.checksum.Statement.{statement}
+use Rattle.recut.proofs.sums.checksum.Tie as tie
 
 abbrev Inv-loop : tie.InvT-loop
 Inv-loop s x₀ i₀ x i = x < 65521
