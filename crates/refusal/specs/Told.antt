@@ -20,8 +20,8 @@ abbrev pub numberOf : Refusal → ℕ
 numberOf (FromSliceTooSmall found expected) = 1
 numberOf (ToSliceTooSmall found expected) = 2
 numberOf (InvalidTlvTypeFieldError found expected) = 3
-numberOf (TlvLvDataTooLargeError length) = 4
-numberOf (InvalidValueLength length) = 5
+numberOf (TlvLvDataTooLargeError n) = 4
+numberOf (InvalidValueLength n) = 5
 numberOf SecondNameMissing = 6
 numberOf (InvalidFilestoreActionCode action) = 7
 numberOf SecondNameNotDue = 8
@@ -30,15 +30,15 @@ numberOf (NumberTooLarge width) = 10
 numberOf (LowBitsNotZero bits) = 11
 numberOf (BytesLeft many) = 12
 numberOf (UnknownStatus status) = 13
-numberOf (InputTooLong length) = 14
+numberOf (InputTooLong n) = 14
 numberOf (PlacePastEnd place) = 15
 
 abbrev pub valuesOf : Refusal → List ℕ
 valuesOf (FromSliceTooSmall found expected) = found ∷ expected ∷ []
 valuesOf (ToSliceTooSmall found expected) = found ∷ expected ∷ []
 valuesOf (InvalidTlvTypeFieldError found expected) = found ∷ expected ∷ []
-valuesOf (TlvLvDataTooLargeError length) = length ∷ []
-valuesOf (InvalidValueLength length) = length ∷ []
+valuesOf (TlvLvDataTooLargeError n) = n ∷ []
+valuesOf (InvalidValueLength n) = n ∷ []
 valuesOf SecondNameMissing = []
 valuesOf (InvalidFilestoreActionCode action) = action ∷ []
 valuesOf SecondNameNotDue = []
@@ -47,7 +47,7 @@ valuesOf (NumberTooLarge width) = width ∷ []
 valuesOf (LowBitsNotZero bits) = bits ∷ []
 valuesOf (BytesLeft many) = many ∷ []
 valuesOf (UnknownStatus status) = status ∷ []
-valuesOf (InputTooLong length) = length ∷ []
+valuesOf (InputTooLong n) = n ∷ []
 valuesOf (PlacePastEnd place) = place ∷ []
 
 -- a refusal as document 01's answer, whatever the call would have given

@@ -1,4 +1,4 @@
-// The calls by number: a call stands for its place in the list of names, which is in replay.
+// The calls by number: a call stands for its place in the list of names, which is in `replay_lines::names`.
 
 pub const LV_NEW: usize = 0;
 

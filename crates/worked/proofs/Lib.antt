@@ -1,1 +1,2 @@
+-- The laws and theorems of this crate.
 pub mod Worked

@@ -1,4 +1,4 @@
--- The array's length by the law of repeated numbers: counting them takes a second.
+-- `recut::ends_room` meets its contract: the array's length by the law of repeated numbers, since counting them takes a second. Assumes nothing.
 use mathlib.Core.Path.{sym}
 use Prim.Native.Nat.{ℕ}
 use lib.ListN.{length-replicate}

@@ -1,4 +1,4 @@
--- Each step ends further on, or the listing ends; a place is a number below 2 to the 64. Assumes nothing.
+-- `replay_walk::listing` is safe and ends: each step ends further on, or the listing ends; a place is a number below 2 to the 64. Assumes nothing.
 use borrow.Author.Needs.{needs}
 use Prim.Native.Nat.{_-_}
 use Rattle.replay_walk.proofs.listing.Statement.{statement}

@@ -1,4 +1,4 @@
--- The places up to the last one become fewer. Assumes nothing.
+-- `replay_walk::places` is safe and ends: the places up to the last one become fewer. Assumes nothing.
 use borrow.Author.Needs.{needs}
 use Prim.Native.Nat.{_+_, _-_}
 use Rattle.replay_walk.proofs.places.Statement.{statement}

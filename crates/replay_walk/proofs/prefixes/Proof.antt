@@ -1,4 +1,4 @@
--- The prefixes up to the last one become fewer. Assumes nothing.
+-- `replay_walk::prefixes` is safe and ends: the prefixes up to the last one become fewer. Assumes nothing.
 use borrow.Author.Needs.{needs}
 use Prim.Native.Nat.{_+_, _-_}
 use Rattle.replay_walk.proofs.prefixes.Statement.{statement}

@@ -1,4 +1,5 @@
--- Each turn takes a byte of the text, and what is left of it falls. The buffer's length stays. Assumes nothing.
+-- `dump_cases::notation::read` is safe and ends: each turn takes a byte of the text, and what is left of it falls. The buffer's length stays.
+-- Assumes nothing.
 use borrow.Author.Needs.{needs}
 use Prim.Native.Nat.{_-_}
 use mathlib.Core.Path.{_≡_}

@@ -1,5 +1,5 @@
--- The room is tested before the loop: the bytes end within the buffer, whose length stays, and each is a copy of one before it. What is left of
--- them falls. Assumes nothing.
+-- `dump_cases::notation::repeated` is safe and ends: the room is tested before the loop, so the bytes end within the buffer, whose length stays, and
+-- each is a copy of one before it. What is left of them falls. Assumes nothing.
 use borrow.Author.Needs.{needs}
 use Prim.Native.Nat.{_≤_, _-_, _*_}
 use native.Mathlib.Nat.{mul-le-mul}

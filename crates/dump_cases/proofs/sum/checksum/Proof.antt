@@ -1,4 +1,5 @@
--- Each turn takes a byte, and what is left of them falls. The checksum stays below the modulus, so that no product wraps. Assumes nothing.
+-- `dump_cases::sum::checksum` is safe and ends: each turn takes a byte, and what is left of them falls. The checksum stays below the modulus, so that
+-- no product wraps. Assumes nothing.
 use borrow.Author.Needs.{needs}
 use Prim.Native.Nat.{_-_, _<_}
 use lib.ListN.{length}

@@ -1,4 +1,4 @@
--- A line ends behind its start, so what is left of the text falls. Assumes nothing.
+-- `dump_cases::sum::line_count` is safe and ends: a line ends behind its start, so what is left of the text falls. Assumes nothing.
 use borrow.Author.Needs.{needs}
 use Prim.Native.Nat.{_-_}
 use lib.ListN.{length}

@@ -1,4 +1,4 @@
--- A part that `fill` answers lies in its buffer. Assumes nothing.
+-- `dump_cases::sum::say_start` is safe: a part that `fill` answers lies in its buffer. Assumes nothing.
 use borrow.Author.Needs.{needs}
 use Rattle.listing.proofs.Parts.{fill-part}
 use native.Mathlib.Omega.{arith}

@@ -1,4 +1,5 @@
--- A part that has bytes has moved the listing on, so what is left of it falls. The buffer's length stays. Assumes nothing.
+-- `dump_cases::sum::through` is safe and ends: a part that has bytes has moved the listing on, so what is left of it falls. The buffer's length stays.
+-- Assumes nothing.
 use borrow.Author.Needs.{needs}
 use mathlib.Core.Path.{_≡_}
 use lib.ListN.{length}

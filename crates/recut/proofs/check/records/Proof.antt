@@ -1,4 +1,4 @@
--- Each turn takes a record of the list; what is left of the m falls. Assumes nothing.
+-- `recut::check::records` is safe and ends: each turn takes a record of the list, and what is left of the m falls. Assumes nothing.
 use borrow.Author.Needs.{needs}
 use Prim.Native.Nat.{_-_}
 use Rattle.recut.proofs.check.records.Statement.{statement}

@@ -1,4 +1,5 @@
--- Each turn takes a byte, and what is left of them falls. The checksum stays below 65,521, so that no product wraps.
+-- `recut::sums::checksum` is safe and ends: each turn takes a byte, and what is left of them falls. The checksum stays below 65,521, so that no product
+-- wraps. Assumes nothing.
 use borrow.Author.Needs.{needs}
 use Prim.Native.Nat.{_-_, _<_}
 use native.Mathlib.Omega.{arith}

@@ -1,13 +1,9 @@
--- Each turn takes a byte of the list; what is left of the list falls. Assumes nothing.
+-- `replay_answers::forms::say_of` is safe and ends: each turn takes a byte of the list, and what is left of the list falls. Assumes nothing.
 use borrow.Author.Needs.{needs}
 use Prim.Native.Nat.{_-_}
 use lib.ListN.{length}
 use Rattle.replay_answers.proofs.forms.say_of.Statement.{statement}
 use Rattle.replay_answers.proofs.forms.say_of.Tie as tie
-use Rattle.replay_answers.proofs.forms.say_of.Reads as reads
-use Rattle.replay_answers.proofs.forms.say_of.Lts as lts
-use Rattle.io.proofs.print_decimal.Reads as print-decimal-reads
-use Rattle.io.proofs.write_all.Reads as write-all-reads
 
 abbrev Inv-loop : tie.InvT-loop
 Inv-loop list form x y left₀ number₀ i₀ left number i = Unit
@@ -15,79 +11,60 @@ Inv-loop list form x y left₀ number₀ i₀ left number i = Unit
 abbrev μ-loop : tie.MeasureT-loop
 μ-loop list form x y left₀ number₀ i₀ left number i = length list - i
 
--- src/forms.rt:82:5
 loop-holds : tie.Need-loop-holds Inv-loop μ-loop
 loop-holds c = search needs
 
--- src/forms.rt:83:20
 shared-slice-read-sign : tie.Need-shared-slice-read-sign Inv-loop μ-loop
 shared-slice-read-sign c = search needs
 
--- src/forms.rt:85:9
 add-i : tie.Need-add-i Inv-loop μ-loop
 add-i c = search needs
 
--- src/forms.rt:88:17
 returns : tie.Need-returns Inv-loop μ-loop
 returns c = search needs
 
--- src/forms.rt:90:13
 sub-left : tie.Need-sub-left Inv-loop μ-loop
 sub-left c = search needs
 
--- src/forms.rt:82:5
 loop-less : tie.Need-loop-less Inv-loop μ-loop
 loop-less c = search needs
 
--- src/forms.rt:82:5
 loop-again : tie.Need-loop-again Inv-loop μ-loop
 loop-again c = search needs
 
--- src/forms.rt:93:17
 print-decimal-requires : tie.Need-print-decimal-requires Inv-loop μ-loop
 print-decimal-requires c κs = search needs
 
--- src/forms.rt:82:5
 loop-less-2 : tie.Need-loop-less-2 Inv-loop μ-loop
 loop-less-2 c = search needs
 
--- src/forms.rt:82:5
 loop-again-2 : tie.Need-loop-again-2 Inv-loop μ-loop
 loop-again-2 c = search needs
 
--- src/forms.rt:96:52
 sub-write-all : tie.Need-sub-write-all Inv-loop μ-loop
 sub-write-all c = search needs
 
--- src/forms.rt:96:52
 part-write-all-start : tie.Need-part-write-all-start Inv-loop μ-loop
 part-write-all-start c = search needs
 
--- src/forms.rt:96:52
 part-write-all-end : tie.Need-part-write-all-end Inv-loop μ-loop
 part-write-all-end c = search needs
 
--- src/forms.rt:96:17
 write-all-requires : tie.Need-write-all-requires Inv-loop μ-loop
 write-all-requires c κs = search needs
 
--- src/forms.rt:82:5
 loop-less-3 : tie.Need-loop-less-3 Inv-loop μ-loop
 loop-less-3 c = search needs
 
--- src/forms.rt:82:5
 loop-again-3 : tie.Need-loop-again-3 Inv-loop μ-loop
 loop-again-3 c = search needs
 
--- src/forms.rt:82:5
 loop-less-4 : tie.Need-loop-less-4 Inv-loop μ-loop
 loop-less-4 c = search needs
 
--- src/forms.rt:82:5
 loop-again-4 : tie.Need-loop-again-4 Inv-loop μ-loop
 loop-again-4 c = search needs
 
--- src/forms.rt:78:1
 returns-2 : tie.Need-returns-2 Inv-loop μ-loop
 returns-2 c = search needs
 

@@ -1,14 +1,10 @@
--- A run ends behind the place where it starts, so the place moves on in either branch, and what is left of the bytes falls.
+-- `replay_answers::notation::say` is safe and ends: a run ends behind the place where it starts, so the place moves on in either branch, and what is
+-- left of the bytes falls. Assumes nothing.
 use borrow.Author.Needs.{needs}
 use Prim.Native.Nat.{_-_}
 use lib.ListN.{length}
 use Rattle.replay_answers.proofs.notation.say.Statement.{statement}
 use Rattle.replay_answers.proofs.notation.say.Tie as tie
-use Rattle.replay_answers.proofs.notation.say.Reads as reads
-use Rattle.replay_answers.proofs.notation.say.Lts as lts
-use Rattle.replay_answers.proofs.forms.say.Reads as say-reads
-use Rattle.replay_answers.proofs.notation.run_end.Reads as run-end-reads
-use Rattle.replay_answers.proofs.notation.say_run.Reads as say-run-reads
 
 abbrev Inv-loop : tie.InvT-loop
 Inv-loop s before₀ i₀ before i = Unit
@@ -16,55 +12,42 @@ Inv-loop s before₀ i₀ before i = Unit
 abbrev μ-loop : tie.MeasureT-loop
 μ-loop s before₀ i₀ before i = length s - i
 
--- src/notation.rt:38:5
 say-requires : tie.Need-say-requires Inv-loop μ-loop
 say-requires c κs = search needs
 
--- src/notation.rt:41:5
 loop-holds : tie.Need-loop-holds Inv-loop μ-loop
 loop-holds c = search needs
 
--- src/notation.rt:42:17
 shared-slice-read-x : tie.Need-shared-slice-read-x Inv-loop μ-loop
 shared-slice-read-x c = search needs
 
--- src/notation.rt:43:33
 add-run-end : tie.Need-add-run-end Inv-loop μ-loop
 add-run-end c = search needs
 
--- src/notation.rt:43:13
 run-end-requires : tie.Need-run-end-requires Inv-loop μ-loop
 run-end-requires c κs = search needs
 
--- src/notation.rt:44:21
 sub-count : tie.Need-sub-count Inv-loop μ-loop
 sub-count c = search needs
 
--- src/notation.rt:45:9
 say-run-requires : tie.Need-say-run-requires Inv-loop μ-loop
 say-run-requires c κs = search needs
 
--- src/notation.rt:48:13
 add-i : tie.Need-add-i Inv-loop μ-loop
 add-i c = search needs
 
--- src/notation.rt:41:5
 loop-less : tie.Need-loop-less Inv-loop μ-loop
 loop-less c = search needs
 
--- src/notation.rt:41:5
 loop-again : tie.Need-loop-again Inv-loop μ-loop
 loop-again c = search needs
 
--- src/notation.rt:41:5
 loop-less-2 : tie.Need-loop-less-2 Inv-loop μ-loop
 loop-less-2 c = search needs
 
--- src/notation.rt:41:5
 loop-again-2 : tie.Need-loop-again-2 Inv-loop μ-loop
 loop-again-2 c = search needs
 
--- src/notation.rt:37:1
 returns : tie.Need-returns Inv-loop μ-loop
 returns c = search needs
 

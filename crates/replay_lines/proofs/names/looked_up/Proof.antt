@@ -1,14 +1,10 @@
--- The place in the list only moves on, past at least as many bytes as entries; what is left of the list falls.
+-- `replay_lines::names::looked_up` is safe and ends: the place in the list only moves on, past at least as many bytes as entries, and what is left of the
+-- list falls. Assumes nothing.
 use borrow.Author.Needs.{needs}
 use Prim.Native.Nat.{_≤_, _-_}
 use lib.ListN.{length}
 use Rattle.replay_lines.proofs.names.looked_up.Statement.{statement}
 use Rattle.replay_lines.proofs.names.looked_up.Tie as tie
-use Rattle.replay_lines.proofs.names.looked_up.Reads as reads
-use Rattle.replay_lines.proofs.names.looked_up.Lts as lts
-use Rattle.test_text.proofs.find.Reads as find-reads
-use Rattle.test_text.proofs.part.Reads as part-reads
-use Rattle.splice.proofs.same.Reads as same-reads
 
 abbrev Inv-loop : tie.InvT-loop
 Inv-loop list name place₀ at₀ place at = place ≤ at
@@ -16,51 +12,39 @@ Inv-loop list name place₀ at₀ place at = place ≤ at
 abbrev μ-loop : tie.MeasureT-loop
 μ-loop list name place₀ at₀ place at = length list - at
 
--- src/text.rt:48:5
 loop-holds : tie.Need-loop-holds Inv-loop μ-loop
 loop-holds c = search needs
 
--- src/text.rt:49:13
 find-requires : tie.Need-find-requires Inv-loop μ-loop
 find-requires c κs = search needs
 
--- src/text.rt:50:13
 find-requires-2 : tie.Need-find-requires-2 Inv-loop μ-loop
 find-requires-2 c κs = search needs
 
--- src/text.rt:51:31
 part-requires : tie.Need-part-requires Inv-loop μ-loop
 part-requires c κs = search needs
 
--- src/text.rt:51:12
 same-requires : tie.Need-same-requires Inv-loop μ-loop
 same-requires c κs = search needs
 
--- src/text.rt:52:13
 returns : tie.Need-returns Inv-loop μ-loop
 returns c = search needs
 
--- src/text.rt:57:9
 add-place : tie.Need-add-place Inv-loop μ-loop
 add-place c = search needs
 
--- src/text.rt:58:14
 add-at : tie.Need-add-at Inv-loop μ-loop
 add-at c = search needs
 
--- src/text.rt:48:5
 loop-less : tie.Need-loop-less Inv-loop μ-loop
 loop-less c = search needs
 
--- src/text.rt:48:5
 loop-again : tie.Need-loop-again Inv-loop μ-loop
 loop-again c = search needs
 
--- src/text.rt:45:1
 returns-2 : tie.Need-returns-2 Inv-loop μ-loop
 returns-2 c = search needs
 
--- src/text.rt:45:1
 returns-3 : tie.Need-returns-3 Inv-loop μ-loop
 returns-3 c = search needs
 

@@ -1,15 +1,11 @@
--- Each turn takes a byte of the text, and what is left of it falls. The buffer's length stays.
+-- `replay_lines::notation::read` is safe and ends: each turn takes a byte of the text, and what is left of it falls. The buffer's length stays.
+-- Assumes nothing.
 use borrow.Author.Needs.{needs}
 use Prim.Native.Nat.{_-_}
 use lib.ListN.{length}
 use mathlib.Core.Path.{_≡_}
 use Rattle.replay_lines.proofs.notation.read.Statement.{statement}
 use Rattle.replay_lines.proofs.notation.read.Tie as tie
-use Rattle.replay_lines.proofs.notation.read.Reads as reads
-use Rattle.replay_lines.proofs.notation.read.Lts as lts
-use Rattle.replay_lines.proofs.notation.Piece.with.Reads as with-reads
-use Rattle.replay_lines.proofs.notation.Piece.with_dot.Reads as with-dot-reads
-use Rattle.replay_lines.proofs.notation.stored.Reads as stored-reads
 
 abbrev Inv-loop : tie.InvT-loop
 Inv-loop s buf₀ p₀ n₀ i₀ buf p n i = length buf ≡ length buf₀
@@ -17,51 +13,39 @@ Inv-loop s buf₀ p₀ n₀ i₀ buf p n i = length buf ≡ length buf₀
 abbrev μ-loop : tie.MeasureT-loop
 μ-loop s buf₀ p₀ n₀ i₀ buf p n i = length s - i
 
--- src/notation.rt:143:9
 returns : tie.Need-returns Inv-loop μ-loop
 returns c = search needs
 
--- src/notation.rt:154:5
 loop-holds : tie.Need-loop-holds Inv-loop μ-loop
 loop-holds c = search needs
 
--- src/notation.rt:155:20
 shared-slice-read-with : tie.Need-shared-slice-read-with Inv-loop μ-loop
 shared-slice-read-with c = search needs
 
--- src/notation.rt:155:9
 with-requires : tie.Need-with-requires Inv-loop μ-loop
 with-requires c κs = search needs
 
--- src/notation.rt:156:9
 stored-requires : tie.Need-stored-requires Inv-loop μ-loop
 stored-requires c κs = search needs
 
--- src/notation.rt:157:9
 add-i : tie.Need-add-i Inv-loop μ-loop
 add-i c = search needs
 
--- src/notation.rt:154:5
 loop-less : tie.Need-loop-less Inv-loop μ-loop
 loop-less c = search needs
 
--- src/notation.rt:154:5
 loop-again : tie.Need-loop-again Inv-loop μ-loop
 loop-again c = search needs
 
--- src/notation.rt:159:12
 with-dot-requires : tie.Need-with-dot-requires Inv-loop μ-loop
 with-dot-requires c κs = search needs
 
--- src/notation.rt:159:5
 stored-requires-2 : tie.Need-stored-requires-2 Inv-loop μ-loop
 stored-requires-2 c κs = search needs
 
--- src/notation.rt:141:1
 same-length : tie.Need-same-length Inv-loop μ-loop
 same-length c = search needs
 
--- src/notation.rt:141:1
 returns-2 : tie.Need-returns-2 Inv-loop μ-loop
 returns-2 c = search needs
 

@@ -1,14 +1,9 @@
--- Each turn takes a letter; what is left of the letters falls. Assumes nothing.
+-- `replay_lines::args::Args::read` is safe and ends: each turn takes a letter, and what is left of the letters falls. Assumes nothing.
 use borrow.Author.Needs.{needs}
 use Prim.Native.Nat.{_-_}
 use lib.ListN.{length}
 use Rattle.replay_lines.proofs.args.Args.read.Statement.{statement}
 use Rattle.replay_lines.proofs.args.Args.read.Tie as tie
-use Rattle.replay_lines.proofs.args.Args.read.Reads as reads
-use Rattle.replay_lines.proofs.args.Args.read.Lts as lts
-use Rattle.replay_lines.proofs.args.Args.with.Reads as with-reads
-use Rattle.replay_lines.proofs.args.new.Reads as new-reads
-use Rattle.replay_lines.proofs.word.Word.read.Reads as read-reads
 
 abbrev Inv-loop : tie.InvT-loop
 Inv-loop line from letters call args₀ at₀ k₀ args at k = Unit
@@ -16,55 +11,42 @@ Inv-loop line from letters call args₀ at₀ k₀ args at k = Unit
 abbrev μ-loop : tie.MeasureT-loop
 μ-loop line from letters call args₀ at₀ k₀ args at k = length letters - k
 
--- src/args.rt:105:13
 new-requires : tie.Need-new-requires Inv-loop μ-loop
 new-requires c κs = search needs
 
--- src/args.rt:105:13
 returns : tie.Need-returns Inv-loop μ-loop
 returns c = search needs
 
--- src/args.rt:107:34
 shared-slice-read-new : tie.Need-shared-slice-read-new Inv-loop μ-loop
 shared-slice-read-new c = search needs
 
--- src/args.rt:107:13
 new-requires-2 : tie.Need-new-requires-2 Inv-loop μ-loop
 new-requires-2 c κs = search needs
 
--- src/args.rt:110:9
 loop-holds : tie.Need-loop-holds Inv-loop μ-loop
 loop-holds c = search needs
 
--- src/args.rt:111:26
 shared-slice-read-letter : tie.Need-shared-slice-read-letter Inv-loop μ-loop
 shared-slice-read-letter c = search needs
 
--- src/args.rt:112:13
 add-k : tie.Need-add-k Inv-loop μ-loop
 add-k c = search needs
 
--- src/args.rt:113:17
 read-requires : tie.Need-read-requires Inv-loop μ-loop
 read-requires c κs = search needs
 
--- src/args.rt:114:13
 with-requires : tie.Need-with-requires Inv-loop μ-loop
 with-requires c κs = search needs
 
--- src/args.rt:110:9
 loop-less : tie.Need-loop-less Inv-loop μ-loop
 loop-less c = search needs
 
--- src/args.rt:110:9
 loop-again : tie.Need-loop-again Inv-loop μ-loop
 loop-again c = search needs
 
--- src/args.rt:103:5
 returns-2 : tie.Need-returns-2 Inv-loop μ-loop
 returns-2 c = search needs
 
--- src/args.rt:103:5
 returns-3 : tie.Need-returns-3 Inv-loop μ-loop
 returns-3 c = search needs
 
