@@ -1,3 +1,4 @@
+-- The definitions of this crate.
 pub mod Inner
 pub mod Rules
 pub mod Told
