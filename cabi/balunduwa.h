@@ -8,7 +8,8 @@
  * throughout where the call refuses. A call that refuses changes no byte of a buffer.
  *
  * Bytes are lent as a pointer and a length. The caller sees to two things, and nothing tests them: no pointer is NULL, also where the length is
- * 0, and as many bytes stand there as the length says; and what is written to (buf) does not overlap what is read from (src). A span is a part of the bytes that it was read from, or of the src that it is written from. */
+ * 0, and as many bytes stand there as the length says; and what is written to (buf) does not overlap what is read from (src). A span is a part of
+ * the bytes that it was read from, or of the src that it is written from. */
 #ifndef BALUNDUWA_H
 #define BALUNDUWA_H
 
@@ -33,8 +34,8 @@ typedef struct {
     size_t len;
 } balunduwa_span;
 
-/* What a writer answers: how many bytes it wrote. To learn how many are needed, write to 0 bytes: refusal 2 carries 0 and their number. (Not of an
- * entity ID, which needs 2 and its width: of fewer than 2 bytes its refusal 2 carries 2.) */
+/* What a writer answers: how many bytes it wrote. To learn how many are needed, write to 0 bytes: refusal 2 carries 0 and their number. (An entity
+ * ID's writer does not tell: given fewer than 2 bytes, its refusal 2 carries 2. It needs 2 and its width.) */
 typedef struct {
     balunduwa_refusal refusal;
     size_t bytes;
@@ -127,8 +128,10 @@ balunduwa_written balunduwa_response_write(balunduwa_response response, const ui
 /* What stands at a place: a record, the whole end, or the cut end. */
 enum { BALUNDUWA_RECORD = 0, BALUNDUWA_WHOLE = 1, BALUNDUWA_CUT = 2 };
 
-/* Of a record: its type byte, its value, and next, the place behind it. Of an end: in value what is left from its place on, nothing of a whole
- * one, and in next that place, at which a record is appended. */
+/* Where a record stands: its type byte, its value, and in next the place behind it. At an end: tlv_type is 0, value is the bytes from the end's
+ * place to the end of the buffer (none at a whole end, the stump at a cut one), and next is the end's place. To append a record, write it at next,
+ * over the stump, and end the journal behind the record: what is left of a longer stump must be cut off, or the walk takes it for the next
+ * record. Then the walk lists the old records and the new one, and ends whole. */
 typedef struct {
     balunduwa_refusal refusal;
     uint8_t what;
@@ -158,7 +161,9 @@ typedef struct {
     uint8_t kind;
 } balunduwa_kind;
 
-/* What the plain reader of its type says of what stands at a place of the journal: 14, 15, or that reader's refusal. */
+/* What kind of record stands at a place of the journal, by the plain reader of its type: 14, 15, or that reader's refusal. Ask it where
+ * balunduwa_walk_step tells a record. No record stands at an end, and an end has no kind: a whole end is refusal 1 (0, 2), which is what the TLV's
+ * reader says of no bytes, and a cut end is a refusal of the reader that the stump's first byte names: 1, and of an entity ID also 2 or 5. */
 balunduwa_kind balunduwa_kind_at(const uint8_t *buf, size_t buf_len, size_t place);
 
 #ifdef __cplusplus

@@ -347,6 +347,11 @@ static void test_walk(void) {
     KIND(BYTES(0x06, 0x03, 0x01, 0x02, 0x03), 0, REFUSAL(5, 3), 0);
     KIND(BYTES(0x05, 0x02, 0xAA), 0, REFUSAL(1, 2, 3), 0);
     KIND(journal, 6, 6, REFUSAL(1, 0, 2), 0); /* no byte, so no type: the TLV's reader answers (docs/DECISIONS.md, 46) */
+    /* a cut end: what the reader says that the stump's first byte names */
+    KIND(BYTES(0x00, 0x03, 0x20, 0x01), 0, REFUSAL(1, 4, 5), 0);
+    KIND(BYTES(0x06), 0, REFUSAL(2, 1, 2), 0);
+    KIND(BYTES(0x06, 0x03, 0x01), 0, REFUSAL(5, 3), 0);
+    KIND(BYTES(0x06, 0x02, 0x01), 0, REFUSAL(1, 3, 4), 0);
     KIND(journal, 6, 7, REFUSAL(15, 7), 0);
     KIND(long_journal, BALUNDUWA_LIMIT + 1, 70000, REFUSAL(14, 65537), 0);
 }

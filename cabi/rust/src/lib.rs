@@ -107,7 +107,7 @@ pub struct Record<'a> {
 /// How a walk ends.
 #[derive(Debug, Clone, Copy, PartialEq, Eq)]
 pub struct End {
-    /// The place of the end. A record is appended here.
+    /// The place of the end. A record is appended by writing it here, over the stump, and ending the journal behind it.
     pub place: usize,
     /// How many bytes stand behind it: 0 where the journal is whole, else it is cut.
     pub behind: usize,
@@ -245,7 +245,8 @@ pub fn summary(journal: &[u8]) -> Result<Summary, Refusal> {
     Ok(Summary { count: answer.count, end: End { place: answer.place, behind: answer.behind } })
 }
 
-/// What stands at a place of the journal, or why the reader of its type refuses it.
+/// What kind of record stands at a place of the journal, or why the plain reader of its type refuses it. Ask it where [`step`] tells a record: an end
+/// has no kind, and a whole end is refusal 1 (0, 2).
 pub fn kind_at(journal: &[u8], place: usize) -> Result<Kind, Refusal> {
     let answer = raw::kind_at(journal, place);
     given(answer.refusal)?;

@@ -187,6 +187,7 @@ fn walk() {
     assert_eq!(kind_at(&journal, 3), Ok(Kind::Entity));
     assert_eq!(kind_at(&journal, 0), Ok(Kind::Other));
     assert_eq!(kind_at(&[0x00, 0x03, 0x20, 0x01, b'a', 0x01], 0), refuses(6, 0, 0));
+    assert_eq!(kind_at(&journal, 6), refuses(1, 0, 2));
     assert_eq!(kind_at(&journal, 7), refuses(15, 7, 0));
     assert_eq!(kind_at(&too_long, 0), refuses(14, LIMIT + 1, 0));
 }
