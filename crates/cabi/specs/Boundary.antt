@@ -1,4 +1,4 @@
--- What crosses the boundary to C: how an answer of document 01 is laid out in a struct, and what the library's values are of what C hands in.
+-- What crosses the boundary to C: how a struct holds an answer of document 01, and which values of the library stand for what C hands in.
 use mathlib.Core.Path.{_≡_}
 use Prim.Native.Nat.{ℕ}
 use mathlib.Core.List.{List, []}
@@ -51,14 +51,14 @@ abbrev pub refusal : {A : Type 0} → Answer A → Numbered
 refusal (gives a) = numbered 0 []
 refusal (refuses n vs) = numbered n vs
 
--- ---- ANSWERS: a struct of the refusal and of what is given, or of what is 0 throughout where nothing is
+-- ---- ANSWERS: a struct has the refusal, and behind it what is given; where nothing is given, all of that is 0
 
 -- what is given, or z where nothing is
 abbrev pub orElse : {A : Type 0} → A → Answer A → A
 orElse z (gives a) = a
 orElse z (refuses n vs) = z
 
--- `out` makes the struct; for z it is 0 throughout
+-- `out` makes the struct from the refusal and what is given; z stands in where nothing is, and all that it makes of z is 0
 abbrev pub crossed : {A T : Type 0} → (Numbered → A → T) → A → Answer A → T
 crossed out z a = out (refusal a) (orElse z a)
 
@@ -155,7 +155,8 @@ noResponse = aResponse CreateFile 0 noSpan Absent noSpan
 abbrev pub responseAnswer : Answer FilestoreResponseTlv → ResponseAnswer
 responseAnswer = crossed responseOut noResponse
 
--- what stands at a place: 0 a record, its value and the place behind it; 1 the whole end, 2 the cut one, what is left from its place on, and its place
+-- what stands at a place. 0 is a record: `value` is the span of its value, and `next` the place behind it. 1 is the whole end, and 2 the cut one: `value`
+-- is the span of the bytes that are left there, and `next` the place of the end.
 
 abbrev pub stepBy : Numbered → ℕ → ℕ → Lv → ℕ → StepAnswer
 stepBy n what kind value next = record { refusal = n; what = what; «tlv_type» = kind; value = spanOf value; next = next }

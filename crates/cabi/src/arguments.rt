@@ -1,4 +1,4 @@
-// The library's values of what C hands in.
+// What C hands in, as values of the library.
 use crate::Request;
 use crate::Response;
 use crate::Span;

@@ -99,8 +99,8 @@ pub struct ResponseAnswer {
     pub response: Response,
 }
 
-// what is 0 for a record, 1 for the whole end and 2 for the cut one. Of a record: its value, and the place behind it. Of an end: what is left from its
-// place on, and that place.
+// `what` is 0 for a record, 1 for the whole end and 2 for the cut one. For a record, `value` is the span of its value and `next` the place behind it. For
+// an end, `value` is the span of the bytes that are left there, none at a whole end, and `next` the place of the end.
 #[repr(C)]
 pub struct StepAnswer {
     pub refusal: Numbered,
@@ -118,7 +118,7 @@ pub struct SummaryAnswer {
     pub behind: usize,
 }
 
-// kind is 0 for a request, 1 for a response, 2 for an entity ID and 3 for any other record.
+// `kind` is 0 for a request, 1 for a response, 2 for an entity ID and 3 for any other record.
 #[repr(C)]
 pub struct KindAnswer {
     pub refusal: Numbered,

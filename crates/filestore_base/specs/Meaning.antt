@@ -27,7 +27,7 @@ pub record Filed : Type 0 where
 abbrev pub filed : ℕ → ℕ → List ℕ → Option (List ℕ) → Option (List ℕ) → Filed
 filed a l f s m = record { action = a; low = l; first = f; second = s; message = m }
 
--- ---- the layout: the standard's for a request where low bits and message are none, and for a response where there is a message
+-- ---- the layout: the standard's request where the low bits are 0 and there is no message, and the standard's response where there is a message
 
 -- the names and the message as LVs
 abbrev pub partsOf : Filed → List ℕ

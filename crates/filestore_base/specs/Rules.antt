@@ -102,7 +102,7 @@ sameParts m n = sameBytes (m .first) (n .first) && sameIf (m .second) (n .second
 unfoldable pub sameBase : FilestoreTlvBase → List ℕ → FilestoreTlvBase → List ℕ → Answer Bool
 sameBase b x c y = also (also (spansTest b x) (spansTest c y)) (gives (sameOctet b c && sameParts (meaning b x) (meaning c y)))
 
--- ---- for the functions inside: room for a second name, or a message, that may be written
+-- ---- for private functions: a second name, or a message, may be written and has room, or it is absent
 abbrev pub FitsIf : SecondName → List ℕ → ℕ → ℕ → Type 0
 FitsIf (There l) src at n = (gives tt ≡ lvs.writeTest l src) × (at + (l .len + 1) ≤ n)
 FitsIf Absent src at n = Unit {0}

@@ -21,7 +21,7 @@ ghost use Rattle.action.specs.Rules.{dueOf};
 ghost use Rattle.filestore_base.specs.Meaning.{bytesIf, isThere, partIf, typeIn, meaning, partsOf};
 ghost use Rattle.filestore_base.specs.Rules.{spanIf, sizeIf, lenIf, FitsIf, dueTest, statusTest, partsTest, lenOf, buildTest, spansTest, lenValue, lenFull, writeTest, writeBase, sameIf, sameOctet, sameParts, sameBase};
 
-// A second name is either there, with its span, or absent. So is, inside, a message: a request has none.
+// A second name is either there, with its span, or absent. The message of a `FilestoreTlvBase` is too: a request has none.
 pub enum SecondName {
     There(Lv),
     Absent,
@@ -96,8 +96,8 @@ impl SecondName {
         }
     }
 
-    // Writes it as an LV to buf from the place at on, where it is there. `Lv::write_at` would test again what is required here; of a length that
-    // is a byte's, and of a part of buf as long as the value, LLVM sees that `splice::put` has nothing to test.
+    // Writes it as an LV to buf from the place at on, where it is there. `Lv::write_at` would test again what is required here. Since the length
+    // is a byte's, and the part of buf is as long as the value, LLVM sees that `splice::put` has nothing to test.
     fn put(self, src: &[u8], buf: &mut [u8], at: usize)
         requires { ⌜ FitsIf self (now src) at (length (now buf)) ⌝ }
         ensures { λ _. ⌜ now (buf .exit) ≡ laid at (lvIf (partIf self (now (src .entry)))) (now (buf .entry)) ⌝ }
@@ -159,7 +159,7 @@ fn status_test(status: u8) -> Checked
 }
 
 impl FilestoreTlvBase {
-    // All but the length of the value.
+    // What building tests, all but the length of the value.
     fn parts_test(self) -> Checked
         ensures { λ r. ⌜ toldChecked r ≡ partsTest self ⌝ }
     {
@@ -197,7 +197,7 @@ impl FilestoreTlvBase {
         first.len + 2 + second.len_full() + message.len_full()
     }
 
-    // What building tests.
+    // What building tests, the length of the value last.
     pub fn build_test(self) -> Checked
         ensures { λ r. ⌜ toldChecked r ≡ buildTest self ⌝ }
     {

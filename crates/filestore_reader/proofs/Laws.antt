@@ -83,7 +83,7 @@ pub leftBefore-none : (at end : ℕ) → end ≤ at → leftBefore at end ≡ Ab
 unfolding leftBefore
 leftBefore-none at end h = simp (le-ltb at end h)
 
--- what is known of what a reader of LVs that may be absent found at a place
+-- what is known where a reader of an LV that may be absent has found s at a place
 pub record Behind (read : Reader (Option (List ℕ))) (bs : List ℕ) (at end : ℕ) (s : SecondName) : Type 0 where
   pub value : Option (List ℕ)
   pub is : s ≡ secondAt at value
@@ -137,7 +137,7 @@ module _ (bs : List ℕ) (at end : ℕ) (h : at ≤ end) (k : end ≤ length bs)
 -- ---- behind the first name
 
 module _ (bs : List ℕ) (end : ℕ) (a : FilestoreActionCode) (low : ℕ) (f : Lv) (d : Bool) (h : endOf f ≤ end) (k : end ≤ length bs) where
-  -- the found value, of what the message's reader took
+  -- the value found, with what the message's reader took
   abbrev with-second : Option (List ℕ) → Took (Option (List ℕ)) → Found
   with-second s t = foundOf (baseOf a low f (secondAt (endOf f) s) (secondAt (endOf f + length (lvIf s)) (t .got))) (length (t .rest))
 
@@ -175,7 +175,7 @@ module _ (bs : List ℕ) (end : ℕ) (d : Bool) where
     abbrev a : FilestoreActionCode
     a = actionAt (o / 16)
 
-    -- what the second name and the message add, of what stands behind the first name
+    -- the value, once the second name and the message are read from what stands behind the first name
     tail : List ℕ → List ℕ → Answer (Took Filed)
     tail v rest = andThen (takeSecond (secondPresent (o / 16)) rest) (λ s. mapA (λ m. took (filed (o / 16) (o % 16) v (s .got) (m .got)) (m .rest)) (takeIf d (s .rest)))
 

@@ -29,7 +29,7 @@ use Rattle.filestore_reader.specs.declared.Found.{Found}
 use Rattle.filestore_reader.proofs.Exact.{FiledOk, exactly-filed}
 use Rattle.filestore_reader.proofs.Theorems.{selected, filed-ok}
 
--- a call that tells where it lies what a reader took
+-- a call that tells where the things lie that a reader took
 pub placed-by : {M N Q : Type 0} {read : Reader M} {ok : M → Type 0} {layout : M → List ℕ} → Exactly read ok layout
     → (to : M → N) (place : N → Q) (near : M → Found) (far : Found → Q) → ((m : M) → ok m → far (near m) ≡ place (to m)) → (bs : List ℕ)
     → mapA far (mapA (λ t. near (t .got)) (read bs)) ≡ mapA (λ t. place (t .got)) (reworded to read bs)
@@ -39,7 +39,7 @@ placed-by {M} {N} {Q} {read} tie to place near far e bs = go (read bs) refl
     go (gives t) g = ap gives (e (t .got) (tie .only bs t g .0))
     go (refuses n vs) g = refl
 
--- what an answer is exactly where B holds, so is one that equals it
+-- where an answer is z exactly if B holds, an answer that equals it is z exactly if B holds
 pub by-iff : {A B : Type 0} {x y z : Answer A} → x ≡ y → (y ≡ z) ↔ B → (x ≡ z) ↔ B
 by-iff e a = (λ g. a .0 (sym e ∙ g), λ h. e ∙ a .1 h)
 

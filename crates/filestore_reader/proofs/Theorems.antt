@@ -136,7 +136,7 @@ slack-none true m left h = sym (rw (h .0, h .1))
 pub exactly-strict : (d : Bool) → Exactly (takeStrict d) (λ t. FiledOk d (t .got) × (gives tt ≡ strictTest d (t .got .action) (t .got .low) (length (t .rest)))) (λ t. tlv (kindOf d) (valueOf (t .got) ++ t .rest))
 exactly-strict d = exactly-tested (exactly-filed d) (λ t. strictTest d (t .got .action) (t .got .low) (length (t .rest)))
 
--- ---- what was found, of bytes: it can be built, and written from the buffer that it was read from
+-- ---- what was found in a buffer can be built, and written from that buffer
 
 pub record Selected (d : Bool) (bs : List ℕ) (f : Found) : Type 0 where
   pub meant : Filed

@@ -1,4 +1,4 @@
--- What the functions inside answer: the same reading, of what stands in a buffer from a place on and before the place `end`.
+-- What the private functions of this crate answer. They read as Rules.antt says, but inside a buffer: the bytes from a place up to the place `end`.
 use Prim.Native.Nat.{ℕ, _+_, _-_}
 use mathlib.Core.Bool.{Bool}
 use mathlib.Core.List.{List}
@@ -28,7 +28,7 @@ readSecondAt bs at end due = mapA (λ t. secondAt at (t .got)) (takeSecond due (
 unfoldable pub leftBefore : ℕ → ℕ → SecondName
 leftBefore at end = pick (ltb at end) (There (span at (end - at))) Absent
 
--- the place behind what stands at a place
+-- the place behind what stands at the place `at`, which is `at` where it is absent
 abbrev pub endIf : ℕ → SecondName → ℕ
 endIf at (There l) = endOf l
 endIf at Absent = at

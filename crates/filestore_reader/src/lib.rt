@@ -1,4 +1,4 @@
-// Reads a filestore request or response: its names and message as spans of the buffer, and how many bytes it leaves of its value.
+// Reads a filestore request or response: its names and message as spans of the buffer, and how many bytes are left behind them in its value.
 // A port of what the two `from_bytes` of src/cfdp/tlv/mod.rs of spacepackets 0.19.0 share, changed: spans for slices, numbered answers, one
 // reader for both, and strict reading beside it.
 use action::ActionCodeRead;
@@ -21,7 +21,7 @@ ghost use Rattle.filestore_reader.specs.Rules.{readBase, strictBase, low
 ghost use Rattle.filestore_reader.specs.Inner.{readIfAt, leftBefore, readSecondAt, readMessageAt, readBehind, readNames, readValue, endIf};
 ghost use Rattle.filestore_reader.specs.Told.{toldSecond, toldFound};
 
-// What was read, and how many bytes it leaves of the value.
+// What was read, and how many bytes are left behind it in the value.
 pub struct Found {
     pub base: FilestoreTlvBase,
     pub left: usize,
@@ -226,7 +226,7 @@ fn listed_test(action_code: FilestoreActionCode, status: u8) -> Checked
 }
 
 impl Found {
-    // What strict reading tests: of a request 11, then 12; of a response 12, then 13.
+    // What strict reading tests: 11 and then 12 for a request, 12 and then 13 for a response.
     fn strict_test(self, response: bool) -> Checked
         ensures { λ r. ⌜ toldChecked r ≡ strictTest response (codeOf (self .base .«action_code»)) (self .base .«low_bits») (self .left) ⌝ }
     {
@@ -242,7 +242,8 @@ impl Found {
     }
 }
 
-// The TLV at the front of buf, of a response or of a request, and what it leaves of its value. What stands behind it is ignored.
+// Reads the response or the request at the front of buf, and counts the bytes that are left in its value. What stands behind it is ignored. 1, 3 and 1 for
+// the TLV; then, for its value, 1 where it is empty, 7, 1 for the first name, 6 or 1 for the second, and 1 for the message.
 pub fn from_bytes(buf: &[u8], response: bool) -> FoundRead
     ensures { λ r. ⌜ toldFound r ≡ readBase response (now (buf .entry)) ⌝ }
 {
@@ -252,7 +253,7 @@ pub fn from_bytes(buf: &[u8], response: bool) -> FoundRead
     }
 }
 
-// The same, and then: of a request 11, 12; of a response 12, 13.
+// The same, and then 11 and 12 for a request, 12 and 13 for a response.
 pub fn from_bytes_strict(buf: &[u8], response: bool) -> FoundRead
     ensures { λ r. ⌜ toldFound r ≡ strictBase response (now (buf .entry)) ⌝ }
 {

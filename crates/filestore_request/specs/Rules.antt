@@ -1,5 +1,5 @@
 -- What building and reading a filestore request answer, for all arguments (document 01, module 4, and strict reading). Writing, lengths and
--- comparing are filestore_base's rules, of what a request holds.
+-- comparing are filestore_base's rules, applied to what a request holds (`requestBase`).
 use Prim.Native.Nat.{ℕ}
 use mathlib.Core.Bool.{false}
 use mathlib.Core.List.{List}

@@ -58,6 +58,7 @@ fn request_of(f: FoundRead) -> FilestoreRequestRead
 }
 
 impl FilestoreRequestTlv {
+    // A builder for each action, with the names that it has. 4, then 5.
     pub fn new_create_file(file_name: Lv) -> FilestoreRequestRead
         ensures { λ r. ⌜ toldRequest r ≡ newRequest (requestOf FilestoreActionCode.CreateFile «file_name» SecondName.Absent) ⌝ }
     {
@@ -211,7 +212,8 @@ impl FilestoreRequestTlv {
         self.base().len_full()
     }
 
-    // The request at the front of buf. Low bits, bytes left in its value, and what stands behind it are ignored.
+    // The request at the front of buf. Low bits, bytes left in its value, and what stands behind it are ignored. 1, 3, 1, then, for the value, 1 where it
+    // is empty, 7, 1 for the first name, 6 or 1 for the second.
     pub fn from_bytes(buf: &[u8]) -> FilestoreRequestRead
         ensures { λ r. ⌜ toldRequest r ≡ readRequest (now (buf .entry)) ⌝ }
     {

@@ -1,5 +1,5 @@
 -- What building and reading a filestore response answer, for all arguments (document 01, module 5, and strict reading). Writing, lengths and
--- comparing are filestore_base's rules, of what a response holds.
+-- comparing are filestore_base's rules, applied to what a response holds (`responseBase`).
 use Prim.Native.Nat.{ℕ}
 use mathlib.Core.Bool.{true}
 use mathlib.Core.List.{List}

@@ -75,7 +75,7 @@ fn response_of(f: FoundRead) -> FilestoreResponseRead
 }
 
 impl FilestoreResponseTlv {
-    // A response with an empty message.
+    // A response with an empty message. 4, 6 or 8, 9, then 5.
     pub fn new_no_filestore_message(
         action_code: FilestoreActionCode,
         status_code: u8,
@@ -184,7 +184,8 @@ impl FilestoreResponseTlv {
         self.base().len_full()
     }
 
-    // The response at the front of buf. Bytes left in its value, and what stands behind it, are ignored.
+    // The response at the front of buf. Bytes left in its value, and what stands behind it, are ignored. 1, 3, 1, then, for the value, 1 where it is empty,
+    // 7, 1 for the first name, 6 or 1 for the second, 1 for the message.
     pub fn from_bytes(buf: &[u8]) -> FilestoreResponseRead
         ensures { λ r. ⌜ toldResponse r ≡ readResponse (now (buf .entry)) ⌝ }
     {

@@ -161,7 +161,7 @@ impl Lv {
         Written::Bytes(expected)
     }
 
-    // The LV at the front of buf. What stands behind it is ignored.
+    // The LV at the front of buf. What stands behind it is ignored. 1.
     pub fn from_bytes(buf: &[u8]) -> LvRead
         ensures { λ r. ⌜ toldLv r ≡ readLv (now (buf .entry)) ⌝ }
     {
@@ -169,7 +169,8 @@ impl Lv {
         Lv::read_at(buf, 0, end)
     }
 
-    // The LV that starts at the place at and ends at the place end or before. 15 where end is past the buffer's end, or at is past end.
+    // The LV that starts at the place at and ends at the place end or before. 15 where end is past the buffer's end, 15 where at is past end, then 1, counted
+    // from at.
     pub fn read_at(buf: &[u8], at: usize, end: usize) -> LvRead
         ensures { λ r. ⌜ toldLv r ≡ readLvAt (now (buf .entry)) at end ⌝ }
     {
@@ -191,7 +192,7 @@ impl Lv {
         LvRead::Read(Lv { start, len })
     }
 
-    // Whether two LVs hold the same value, each in its own buffer. 15 for the first span that passes its buffer's end.
+    // Whether two LVs hold the same value, each in its own buffer. 15 for its own span, then for the other's.
     pub fn same(self, buf: &[u8], other: Lv, other_buf: &[u8]) -> Sameness
         ensures { λ r. ⌜ toldSameness r ≡ sameLv self (now (buf .entry)) other (now («other_buf» .entry)) ⌝ }
     {

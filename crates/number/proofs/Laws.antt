@@ -59,7 +59,7 @@ be-back (suc k) x h =
     let l : x / 256 < 256 ^ k = omega (arith, pow-suc 256 k) in
     beFrom-snoc (beBytes k (x / 256)) 0 (x % 256) ∙ rw (be-back k (x / 256) l) (omega arith)
 
--- a number of k bytes, with the bytes behind it: their number has all these bytes, and fits them
+-- a number of k bytes, and bytes behind it: the number that they make together has all these bytes, and fits them
 be-on : (k x : ℕ) (bs : List ℕ) → Octets bs → x < 256 ^ k → (beBytes (k + length bs) (beFrom x bs) ≡ beBytes k x ++ bs) × (beFrom x bs < 256 ^ (k + length bs))
 unfolding beFrom beBytes
 be-on k x [] o h = rw add-zero (sym (append-nil (beBytes k x)), h)
@@ -161,7 +161,7 @@ numberTest-passed x w e = go (leb w 8) refl (ltb x (256 ^ w)) refl e
     go true p false q e = absurd (gives-or-refuses tt 10 (w ∷ []) e)
     go false p b q e = absurd (gives-or-refuses tt 5 (w ∷ []) e)
 
--- a number's last k bytes, of its 8
+-- the last k of a number's 8 bytes
 pub last-bytes : (x k : ℕ) (b : List ℕ) → k ≤ 8 → b ≡ beBytes 8 x → take (8 - (8 - k)) (drop (8 - k) b) ≡ beBytes k x
 last-bytes x k b h e =
     let n : 8 - k + k ≡ 8 = omega arith in

@@ -1,4 +1,4 @@
-// Unsigned big-endian numbers of up to 8 bytes. A loop that is called with a part of constant length is one load, or one store, of that width.
+// Unsigned big-endian numbers of up to 8 bytes. Where a loop is called on a part of constant length, LLVM makes it one load or one store.
 use refusal::Checked;
 use refusal::Refusal;
 use refusal::Written;
@@ -32,7 +32,7 @@ fn digits(v: &[u8]) -> u64
     x
 }
 
-// The number of w bytes, as of a part of length w: where w is a constant, so is the loop's count.
+// The number of the w bytes of v, taken as a part of length w: where w is a constant, so is the loop's count.
 fn first(v: &[u8], w: usize) -> u64
     requires { ⌜ (length (now v) ≡ w) × (w ≤ 8) ⌝ }
     ensures { λ r. ⌜ r ≡ ofBe (now (v .entry)) ⌝ }
@@ -40,7 +40,7 @@ fn first(v: &[u8], w: usize) -> u64
     digits(&v[..w])
 }
 
-// The number of 8 bytes, of a copy: LLVM takes it for one load where it does not so take 8 loads from v.
+// The number of 8 bytes, read from a copy: LLVM makes that one load, which it does not do with 8 loads from v.
 fn eight(v: &[u8]) -> u64
     requires { ⌜ length (now v) ≡ 8 ⌝ }
     ensures { λ r. ⌜ r ≡ ofBe (now (v .entry)) ⌝ }

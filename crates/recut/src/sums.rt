@@ -1,4 +1,4 @@
-// A checksum and a sum, which stand any arguments.
+// A checksum and a sum, which take any arguments.
 
 // A number that tells bytes from others: each of them counts, and so does its place.
 pub fn checksum(s: &[u8]) -> usize {
@@ -11,7 +11,7 @@ pub fn checksum(s: &[u8]) -> usize {
     x
 }
 
-// The sum, or the largest number where that is more.
+// The sum, or the largest number of the machine where the sum is larger.
 pub fn sum(x: usize, y: usize) -> usize {
     if usize::MAX - x < y {
         return usize::MAX;

@@ -1,4 +1,4 @@
-// What is written, form by form, in one list: a constant for each says which place of the list is whose. A # stands for a number.
+// All texts that are written, called forms, in one list; the constant of a form is its place in the list. A # in a form stands for a number.
 pub const TRUE: usize = 0;
 
 pub const FALSE: usize = 1;

@@ -1,7 +1,7 @@
 // Says what the library's calls answer, on standard output: one function for each type of answer. A refusal is said by its number and values.
 // The text of the answers stands in forms, the notation for bytes in notation. Part of the program replay, which has the format of a case;
-// recut says its text and its numbers so too.
-// What is written is not stated: a function here answers nothing and changes nothing that is lent.
+// the program recut uses it for its text and its numbers too.
+// No contract states what is written: a function here answers nothing and changes nothing that is lent.
 mod forms;
 mod notation;
 
@@ -28,7 +28,7 @@ use tlv::TlvType;
 use tlv::TlvTypeField;
 ghost use mathlib.Core.Path.{_≡_};
 
-// Text as it is, what stands between a line and its answer, a line's end, the answer to what is no case, and the word for a long input.
+// Five functions: text as it is, what stands between a line and its answer, a line's end, the answer to what is no case, and the word for a long input.
 pub fn text(s: &[u8])
     ensures { λ r. ⌜ r ≡ tt ⌝ }
 {
@@ -266,7 +266,7 @@ pub fn bytes(s: &[u8])
     notation::say(s);
 }
 
-// All of a writer's buffer afterwards, behind its answer.
+// Says all of a writer's buffer as it is afterwards; it stands behind the answer.
 fn buffer(buf: &[u8]) {
     forms::say(forms::BUFFER, 0, 0);
     notation::say(buf);

@@ -3,7 +3,7 @@
 use crate::forms;
 ghost use Prim.Native.Nat.{_≤_};
 
-// The place of the first byte from the place from on that is not x, or the length.
+// The place of the first byte, at the place `from` or behind it, that is not x; or the length.
 fn run_end(s: &[u8], x: u8, from: usize) -> usize
     ensures { λ r. ⌜ from ≤ r ⌝ }
 {
@@ -17,7 +17,7 @@ fn run_end(s: &[u8], x: u8, from: usize) -> usize
     i
 }
 
-// Says a byte that stands count times in a row: 5 times or more in a piece of its own. before is the count said before, 0 at the start.
+// Says a byte that stands count times in a row: 5 times or more in a piece of its own. `before` is the count of the call before, 0 at the start.
 fn say_run(x: u8, count: usize, before: usize) {
     if count < 5 {
         if 4 < before {

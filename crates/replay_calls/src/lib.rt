@@ -1,6 +1,7 @@
 // Makes the calls of the library that the cases of replay ask for, and says what they answer. Nothing lent is changed: a writer writes to a copy.
-// What a call takes is told by Words. The calls are made in tables, one for each type of answer: in plain (answers that are no refusals),
-// readers, requests, sames and writers. values has what the words stand for, names the numbers of the calls.
+// `Words` holds the numbers that a case hands to its call. The calls stand in tables, one for each type of answer: the module plain has the types that
+// hold no refusal, and readers, requests, sames and writers have the others. The module values makes the library's values from words, and names has
+// the numbers of the calls.
 pub mod names;
 mod plain;
 mod readers;
@@ -13,8 +14,8 @@ use test_text::room;
 use test_text::short_room;
 ghost use mathlib.Core.Path.{_≡_};
 
-// The last nine numbers among the words, in order: a call of two numbers has them in n8 and n9. A type field is a number, and a second name
-// is three: 1 where it is there, its start and its length.
+// The last nine numbers of a case, in order: a case with two numbers has them in n8 and n9. A type field is one number, and a second name is three: 1 where
+// it is there, its start and its length.
 pub struct Words {
     pub n1: usize,
     pub n2: usize,
@@ -27,7 +28,7 @@ pub struct Words {
     pub n9: usize,
 }
 
-// The calls that take no bytes, and those that take a source and no buffer.
+// Makes a call that takes no bytes; the next function, one that takes a source and no buffer.
 fn of_values(call: usize, kind: u8, w: Words) {
     match kind {
         b'b' => replay_answers::truth(plain::truth(call, w)),
@@ -55,7 +56,7 @@ fn of_source(call: usize, kind: u8, w: Words, a: &[u8]) {
     }
 }
 
-// Writes to b, and says it with the answer.
+// Makes a call that writes to b, and says its answer, and b behind it.
 fn written(call: usize, kind: u8, left: Words, w: Words, a: &[u8], b: &mut [u8]) {
     match kind {
         b'u' => replay_answers::tlv_written(values::entity(w.n8, w.n9).to_tlv(b), b),
@@ -63,7 +64,7 @@ fn written(call: usize, kind: u8, left: Words, w: Words, a: &[u8], b: &mut [u8])
     }
 }
 
-// Those that write, to a copy of the buffer b.
+// Makes a call that writes, on a copy of the buffer b: in a long room here, and in a short one, if it is enough, in the next function.
 fn of_long_buffer(call: usize, kind: u8, left: Words, w: Words, a: &[u8], b: &[u8]) {
     let mut copy = room();
     let n = b.len();
@@ -84,10 +85,10 @@ fn of_buffer(call: usize, kind: u8, left: Words, w: Words, a: &[u8], b: &[u8]) {
     written(call, kind, left, w, a, &mut copy[0..n]);
 }
 
-// Makes a call, and says what it answers. kind is its type of answer: a an action, b yes or no, c a count, e an entity ID, f a type field,
-// k a test, l a length, m a second name, n a number, q a request, r a response, s a span, t a standard type, u a TLV with the buffer, v a TLV,
-// w what was written, with the buffer, x bytes, y and z the sameness of two; any other is no case.
-// left are the words before the source a, w all words; b is the buffer, or the second source.
+// Makes a call, and says what it answers. `kind` is a letter for its type of answer: a is an action, b yes or no, c a count, e an entity ID, f a type field,
+// k a test, l a length, m a second name, n a number, q a request, r a response, s a span, t a standard type, u a TLV with the buffer, v a TLV, w the count of
+// bytes written with the buffer, x bytes, y whether two are the same, z the same where that can be refused; any other letter is no case.
+// `left` has the words before the source a, and w has all words; b is the buffer, or the second source.
 pub fn say(call: usize, kind: u8, left: Words, w: Words, a: &[u8], b: &[u8])
     ensures { λ r. ⌜ r ≡ tt ⌝ }
 {

@@ -1,4 +1,4 @@
-// The calls by number: a call stands for its place in the list of names, which is in `replay_lines::names`.
+// The numbers of the calls: the number of a call is its place in the list of names, which is in `replay_lines::names`.
 
 pub const LV_NEW: usize = 0;
 

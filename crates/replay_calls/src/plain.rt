@@ -1,4 +1,4 @@
-// The calls whose answers are no refusals, by the type of their answer.
+// The calls whose type of answer holds no refusal, by that type.
 use crate::Words;
 use crate::names;
 use crate::values;

@@ -1,4 +1,4 @@
-// The calls that may refuse, and write nothing, by the type of their answer. a is the source.
+// The other calls that write nothing, but for comparisons, requests and responses, by the type of their answer. a is the source.
 use crate::Words;
 use crate::names;
 use crate::values;
@@ -52,7 +52,7 @@ pub(crate) fn length(call: usize, w: Words, a: &[u8]) -> Length {
     }
 }
 
-// A span that the call always gives counts as one that is read.
+// Where a call always gives a span, it is answered as one that was read.
 pub(crate) fn lv(call: usize, w: Words, a: &[u8]) -> LvRead {
     let v = values::of(w);
     match call {

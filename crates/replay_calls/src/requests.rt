@@ -44,7 +44,7 @@ fn built_response(q: FilestoreResponseTlv) -> FilestoreResponseRead {
     )
 }
 
-// The words are those of a response without the last two.
+// Builds a response with an empty message. Its words are those of a response without the last two, which are the message's.
 fn without_message(w: Words) -> FilestoreResponseRead {
     FilestoreResponseTlv::new_no_filestore_message(
         values::action(w.n3),

@@ -1,4 +1,4 @@
-// The library's values that the words of a case stand for.
+// The library's values, made from the words of a case.
 use crate::Words;
 use action::FilestoreActionCode;
 use entity_id::EntityIdTlv;
@@ -11,7 +11,7 @@ use tlv::Tlv;
 use tlv::TlvType;
 use tlv::TlvTypeField;
 
-// A byte, a standard type, a type field and an action by their numbers.
+// A byte, a standard type, a type field and an action, each from its number.
 pub(crate) fn octet(x: usize) -> u8 {
     (x % 256) as u8
 }
@@ -55,7 +55,7 @@ pub(crate) fn second(there: usize, start: usize, len: usize) -> SecondName {
     SecondName::Absent
 }
 
-// What the last words stand for, by each way to take them. before is a span that stands before the last one.
+// What the last words of a case stand for, taken as each type of value. `before` is the span before the last one.
 pub struct Values {
     pub before: Lv,
     pub lv: Lv,

@@ -4,7 +4,7 @@ use crate::names;
 use crate::values;
 use refusal::Written;
 
-// left are the words before the source a.
+// `left` has the words before the source a, and w has all words.
 pub(crate) fn written(call: usize, left: Words, w: Words, a: &[u8], b: &mut [u8]) -> Written {
     let l = values::of(left);
     match call {

@@ -17,9 +17,9 @@ fn with(w: Words, x: usize) -> Words {
     }
 }
 
-// kind is the letter of the call's type of answer; 0 where the words are not those that the call takes.
-// left are the words before the source, and w all of them. The source's word stands in the line from source up to source_end, the buffer's
-// likewise; where a call takes none, that is nowhere.
+// `kind` is the letter of the call's type of answer; 0 where the words are not those that the call takes.
+// `left` has the words before the source, and w has all of them. The source's word stands in the line from `source` up to `source_end`, and the buffer's
+// likewise; where a call takes none, both places are 0.
 pub struct Args {
     pub call: usize,
     pub kind: u8,
@@ -56,7 +56,7 @@ fn new(call: usize, kind: u8) -> Args {
 }
 
 impl Args {
-    // With the word of a letter.
+    // The arguments with one more word, which has to be what the letter asks for.
     fn with(mut self, letter: u8, word: Word) -> Args {
         if !word.fits(letter) {
             self.kind = 0;
@@ -84,8 +84,7 @@ impl Args {
         self
     }
 
-    // Reads the words behind the place from of the line, one for each letter, no more and no less. Before the letters stand a space and the
-    // kind.
+    // Reads the words of the line from the place `from` on: one for each letter, no more and no less. A space and the kind stand before the letters.
     pub(crate) fn read(line: &[u8], from: usize, letters: &[u8], call: usize) -> Args {
         if letters.len() < 2 {
             return new(call, 0);

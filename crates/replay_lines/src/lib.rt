@@ -1,7 +1,7 @@
 // What the programs replay and recorded do: they answer the cases on standard input, one a line. The format is in the program replay.
 // The modules, from the input on: lines (cuts it), calls (answers a case), names (the list of the calls), args and word (read the arguments),
 // notation (reads bytes). The crates replay_calls and, for the walk, replay_walk make the calls, and replay_answers says what they answer.
-// What is written is not stated: a function here answers nothing and changes nothing that is lent.
+// No contract states what is written: a function here answers nothing and changes nothing that is lent.
 mod args;
 mod calls;
 mod lines;

@@ -1,13 +1,13 @@
-// The calls by name. A call stands for its place in the list, which `replay_calls::names` has as a constant.
-// To add a call: its entry in the list behind the last one of its type, its constant there, those behind it one further on, and its arm in the
-// table of its type of answer. A new type of answer is a new letter, with an arm in `replay_calls`.
+// The calls by name. The number of a call is its place in the list, and `replay_calls::names` has a constant for it.
+// To add a call: put its entry into the list behind the last one of its type, put its constant among the others and count those behind it one further,
+// and put its arm into the table of its type of answer. A new type of answer is a new letter, with an arm in `replay_calls`.
 // A call of the walk has no constant: its entry stands behind the last one, its letter is a digit, and its arm is in `replay_walk::say`.
 use crate::args::Args;
 use test_text::find;
 use test_text::part;
 
 // Reads a line: its name up to the first space, and its words by the letters that stand behind the name in the list.
-// The first of them is a small one, the type of answer, as `replay_calls::say` has it, or a digit, the call, as `replay_walk::say` has it.
+// The first of them is a small letter, which is the type of answer (`replay_calls::say` has them), or a digit, which is the call (`replay_walk::say`).
 // The others are the words: N a number, O a number up to 255, A an action from 0 to 8, F a type field, T a standard type, M a second name,
 // S the bytes that are the source, B those that are the buffer.
 pub(crate) fn read(line: &[u8]) -> Args {

@@ -24,8 +24,7 @@ const COUNT: u8 = 6;
 
 const BAD: u8 = 7;
 
-// The reading of a piece: what its text ended with, the byte that was read and its count. And what is to be stored: the byte said, so many
-// times.
+// How far a piece was read: what its text ended with, the byte that was read and its count. And what is to be stored: the byte `said`, so many times.
 struct Piece {
     ended: u8,
     x: u8,
@@ -43,7 +42,7 @@ fn small(x: u8) -> u8 {
 }
 
 impl Piece {
-    // What the text ended with, and the byte read, after the byte before was said some times.
+    // The piece with a new end and a new byte; the byte before is to be stored so many times.
     fn on(self, ended: u8, x: u8, times: usize) -> Piece {
         Piece {
             ended,

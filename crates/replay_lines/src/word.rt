@@ -17,8 +17,8 @@ pub(crate) fn with_digit(x: usize, digit: u8) -> Decimal {
     Decimal::Is(tens + digit as usize)
 }
 
-// The mark is the sign that a word begins with, or the plus behind its first number; without any it is 0. first is the number before the mark,
-// x the one behind it, and digits says whether that has any. The word stands from start, a space, up to end.
+// The mark is the sign that a word begins with, or the plus behind its first number; without any it is `0`. `first` is the number before the mark and x the
+// one behind it; `digits` says whether x has any. The word stands from `start`, where its space is, up to `end`.
 pub struct Word {
     mark: u8,
     pub first: usize,

@@ -9,8 +9,8 @@ ghost use Rattle.refusal.specs.Told.{toldWritten};
 ghost use Rattle.splice.specs.Laid.{laid, sameBytes};
 ghost use Rattle.splice.specs.Writing.{roomAt, Wrote};
 
-// Copies all of src over dst from the place at on, through an array of its own. That no store to the array can touch src, and none to dst
-// the array, lets LLVM see two copies, join them into one `memmove` and drop the array; of a constant length it is plain loads and stores.
+// Copies all of src over dst from the place at on, through an array of its own. No store to the array can touch src, and no store to dst the
+// array: so LLVM sees two copies, joins them into one `memmove` and drops the array. A constant length makes it plain loads and stores.
 fn through(dst: &mut [u8], at: usize, src: &[u8])
     requires { ⌜ (length (now src) ≤ 256) × (at + length (now src) ≤ length (now dst)) ⌝ }
     ensures { λ _. ⌜ now (dst .exit) ≡ laid at (now (src .entry)) (now (dst .entry)) ⌝ }
@@ -112,7 +112,7 @@ pub fn put(dst: &mut [u8], at: usize, src: &[u8]) -> Written
     Written::Bytes(expected)
 }
 
-// Whether a and b, of one length, hold the same bytes. There is no way out before the end: so LLVM compares many bytes in a step.
+// Whether a and b, which have the same length, hold the same bytes. There is no way out before the end, so LLVM compares many bytes in a step.
 fn alike(a: &[u8], b: &[u8]) -> bool
     requires { ⌜ length (now a) ≡ length (now b) ⌝ }
     ensures { λ r. ⌜ r ≡ sameBytes (now (a .entry)) (now (b .entry)) ⌝ }

@@ -1,10 +1,10 @@
-// Small steps on text that the test programs share: a digit's number, a part, the place of a byte, and room for bytes. They stand any arguments.
+// Small steps on text that the test programs share: a digit's number, a part, the place of a byte, and room for bytes. They take any arguments.
 ghost use mathlib.Core.Path.{_≡_};
 ghost use Prim.Native.Nat.{_+_};
 ghost use lib.ListN.{length, drop, replicate};
 ghost use Rattle.test_text.specs.Text.{digit, stretch, before};
 
-// A hexadecimal digit's number, or 16. Its letters are small ones.
+// The number of a hexadecimal digit, 0 to 9 or a to f; 16 for any other byte.
 pub fn nibble(x: u8) -> u8
     ensures { λ r. ⌜ r ≡ digit x ⌝ }
 {
@@ -28,7 +28,7 @@ pub fn part(s: &[u8], start: usize, end: usize) -> &[u8]
     &s[start..end]
 }
 
-// The place of the first byte `what` from the place from on. Without one it is the length, or from where that is more.
+// The place of the first byte `what` at the place `from` or behind it. Where there is none it is the length of s, or `from` if that is larger.
 pub fn find(s: &[u8], what: u8, from: usize) -> usize
     ensures { λ r. ⌜ r ≡ from + before what (drop from (now (s .entry))) ⌝ }
 {
@@ -42,7 +42,7 @@ pub fn find(s: &[u8], what: u8, from: usize) -> usize
     i
 }
 
-// Room for bytes, short or of any length. The first clause is what lending the array as a slice needs.
+// Room for 512 bytes, and for 66,000. The first clause is what lending the array as a slice needs.
 pub fn short_room() -> [u8; 512]
     ensures { λ r. ⌜ 512 ≡ length r ⌝ }
     ensures { λ r. ⌜ r ≡ replicate 512 0 ⌝ }

@@ -29,6 +29,6 @@ unfolding limitTest beFrom partOf takeLv readLv takeTlv readTlv takeOf
     walkOn walk front stepAt summaryOf
 worked r m = each (λ (x : Row). answerOf (x .call) (x .bytes)) (λ (x : Row). x .answer) m refl
 
--- Of the calls: any answer that the contract of a row's call allows, told as the contract tells it (`toldLv answer`, ..), is the row's.
+-- The same for the calls: any answer that the contract of a row's call allows, told as the contract tells it (`toldLv answer`, ..), is the row's.
 pub worked-calls : (r : Row) → List·Memᴰ r table → (told : Answer (Given (r .call))) → told ≡ rule (r .call) (r .bytes) → said (r .call) told (r .bytes) ≡ r .answer
 worked-calls r m told e = ap (λ a. said (r .call) a (r .bytes)) e ∙ worked r m

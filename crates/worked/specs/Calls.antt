@@ -1,4 +1,4 @@
--- The calls that read, and what each answers of some bytes, in one type for all of them: the words of document 01's examples.
+-- The calls that read, and what each answers when it is lent some bytes, in one type for all of them: the words of document 01's examples.
 use Prim.Native.Nat.{ℕ}
 use mathlib.Core.List.{List}
 use Rattle.bluebook.specs.Layouts.{Entity}

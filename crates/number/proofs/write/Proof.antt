@@ -1,4 +1,4 @@
--- `number::write` meets its contract: the number's last bytes, of its 8, are copied. Assumes nothing.
+-- `number::write` meets its contract: the last of the number's 8 bytes are copied. Assumes nothing.
 use mathlib.Core.Path.{_≡_, sym, ap, _∙_}
 use Prim.Native.Nat.{_-_}
 use native.Mathlib.Omega.{arith}

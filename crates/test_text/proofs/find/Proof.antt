@@ -1,4 +1,4 @@
--- `test_text::find` meets its contract: each byte that is passed is another one, so that the place and what is still to be passed stay one sum.
+-- `test_text::find` meets its contract: no byte that is passed is the one looked for, so the place and the count of bytes still to be passed keep their sum.
 -- What is left of the bytes falls. Assumes nothing.
 use mathlib.Core.Path.{_≡_}
 use Prim.Native.Nat.{_+_, _-_}
