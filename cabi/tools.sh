@@ -10,13 +10,20 @@
 # standard library of that machine itself for derive macros and build scripts, and commands that run a program for x86-64 and count its instructions. An
 # objdump for x86-64 is in Debian's binutils-x86-64-linux-gnu.
 # CABI_LIB is an archive libcabi.a to use in the place of the one that `rt staticlib cabi` proves and writes.
+# Status 77 where one of these commands is missing, and something is left out for it; 2 where something else is in the way.
 
 stop() {
     echo "$me: $1" >&2
     exit 2
 }
 
-# Sets each of these variables. Where a command is not there: one line, and all is left out, with status 0.
+# Ends what something is missing for: one line, and the status 77, so that nobody takes it for a test that passed.
+leave_out() {
+    echo "$me: left out: $1"
+    exit 77
+}
+
+# Sets each of these variables. Where a command is not there, all is left out.
 needs() { # VARIABLE..
     for variable in "$@"; do
         eval "command=\${$variable-}"
@@ -29,14 +36,8 @@ needs() { # VARIABLE..
                 X86_OBJDUMP) command=objdump ;;
             esac
         fi
-        if [ -z "$command" ]; then
-            echo "$me: left out: this machine is not an x86-64 one, and $variable is not set"
-            exit 0
-        fi
-        if ! command -v "${command%% *}" >/dev/null; then
-            echo "$me: left out: there is no command ${command%% *} ($variable)"
-            exit 0
-        fi
+        [ -n "$command" ] || leave_out "this machine is not an x86-64 one, and $variable is not set"
+        command -v "${command%% *}" >/dev/null || leave_out "there is no command ${command%% *} ($variable)"
         eval "$variable=\$command"
     done
 }
@@ -60,7 +61,7 @@ x86_cargo() { # VERB ARGUMENTS..
         CARGO_TARGET_X86_64_UNKNOWN_LINUX_GNU_RUNNER=$X86_RUN $X86_CARGO "$@"
 }
 
-# The same, with what it says only where it fails. Where it cannot build for the machine itself: one line, and all is left out, with status 0.
+# The same, with what it says only where it fails. Where it cannot build for the machine itself, the rest is left out.
 x86_built() { # VERB ARGUMENTS..
     said=$(mktemp)
     if x86_cargo "$@" >"$said" 2>&1; then
@@ -69,8 +70,7 @@ x86_built() { # VERB ARGUMENTS..
     fi
     if grep -q "can't find crate for .\(std\|core\)." "$said"; then
         rm -f "$said"
-        echo "$me: left out: $X86_CARGO has no standard library for this machine itself (see cabi/tools.sh)"
-        exit 0
+        leave_out "$X86_CARGO has no standard library for this machine itself (see cabi/tools.sh)"
     fi
     cat "$said" >&2
     rm -f "$said"
