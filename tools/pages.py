@@ -11,7 +11,7 @@ OUTSIDE = {
     "words of Rattle, its logic and its library": "requires ensures match let if else now length take usize usize::MAX &[u8] &mut",
     "the kit's command, and what it prints": "rt axioms=",
     "words of a listing": "request response entity other refused whole cut too",
-    "commands of the system": "cc echo head",
+    "commands of the system": "cat cc echo head python3",
     "functions of C": "memmove",
     "types, attributes and functions of every Rust": "Option Result #[inline] copy_from_slice",
     "names and files of the Rust that is ported": "raw_data ByteConversionError InvalidTlvTypeFieldError spacepackets bitenum cfdp util pdu"
