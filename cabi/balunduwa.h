@@ -1,6 +1,6 @@
-/* Balunduwa for C: the codec and the walk of a CFDP journal, as a static library for x86-64.
+/* Balunduwa for C: the records of a CFDP journal, read and written, and the walk over them, as a static library for x86-64.
  *
- * Every function is proved, in crates/cabi, to answer what its customer's rules say ("document 01"), and where they are silent what
+ * Every function is proved, in crates/cabi, to answer what the customer's rules say ("document 01"), and where they are silent what
  * docs/DECISIONS.md says, for all arguments that keep the two rules below; this header and the compiler that reads it are not part of that proof.
  *
  * An answer is a struct by value. It begins with a refusal: number 0 where there is none, else a number from 1 to 15 (README.md, 'The answers by
@@ -131,7 +131,7 @@ enum { BALUNDUWA_RECORD = 0, BALUNDUWA_WHOLE = 1, BALUNDUWA_CUT = 2 };
 /* Where a record stands: its type byte, its value, and in next the place behind it. At an end: tlv_type is 0, value is the bytes from the end's
  * place to the end of the buffer (none at a whole end, the stump at a cut one), and next is the end's place. To append a record, write it at next,
  * over the stump, and end the journal behind the record: what is left of a longer stump must be cut off, or the walk takes it for the next
- * record. Then the walk lists the old records and the new one, and ends whole. */
+ * record. If the journal then has at most BALUNDUWA_LIMIT bytes, the walk lists the old records and the new one, and ends whole. */
 typedef struct {
     balunduwa_refusal refusal;
     uint8_t what;

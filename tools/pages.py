@@ -10,7 +10,7 @@ FOLDER_OF = {"Says": "specs", "Theorems": "proofs", "One answer": "proofs"}
 OUTSIDE = {
     "words of Rattle, its logic and its library": "requires ensures match let if else now length take usize usize::MAX &[u8] &mut",
     "the kit's command, and what it prints": "rt axioms=",
-    "words of a listing": "request response entity other refused whole cut too",
+    "words of a listing, and of the samples": "request response entity other refused whole cut too no",
     "commands of the system": "cat cc echo head python3",
     "functions of C": "memmove",
     "types, attributes and functions of every Rust": "Option Result #[inline] copy_from_slice",

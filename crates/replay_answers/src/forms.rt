@@ -61,13 +61,11 @@ pub const LINE_END: usize = 29;
 
 pub const BAD_CASE: usize = 30;
 
-pub const TOO_LONG: usize = 31;
-
 // Says a form, with the numbers that it has a place for.
 pub(crate) fn say(form: usize, x: usize, y: usize) {
     say_of(
         b"true|false|same|different|fine|absent|#|refused #| (#)| (#, #)|length #|number #|span # #|s#|c#|wrote #| buf |action #|\
-width # number #|second # #|second -|request # |response # status # | message # #|x|.|*#| | = |\n|bad case|the input is too long\n",
+width # number #|second # #|second -|request # |response # status # | message # #|x|.|*#| | = |\n|bad case",
         form,
         x,
         y,

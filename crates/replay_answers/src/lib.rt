@@ -28,7 +28,7 @@ use tlv::TlvType;
 use tlv::TlvTypeField;
 ghost use mathlib.Core.Path.{_≡_};
 
-// Five functions: text as it is, what stands between a line and its answer, a line's end, the answer to what is no case, and the word for a long input.
+// Five functions: text as it is, what stands between a line and its answer, a line's end, the word for a long input, and the answer to what is no case.
 pub fn text(s: &[u8])
     ensures { λ r. ⌜ r ≡ tt ⌝ }
 {
@@ -47,10 +47,11 @@ pub fn line_end()
     forms::say(forms::LINE_END, 0, 0);
 }
 
+// On standard error: nothing was answered.
 pub fn too_long()
     ensures { λ r. ⌜ r ≡ tt ⌝ }
 {
-    forms::say(forms::TOO_LONG, 0, 0);
+    io::write_all(libc::STDERR_FILENO, b"the input is too long\n");
 }
 
 pub fn bad()

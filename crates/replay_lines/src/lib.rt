@@ -19,14 +19,14 @@ fn input_room() -> [u8; 131072]
     [0; 131072]
 }
 
-// Writes each line of standard input back, a case with its answer.
+// Writes each line of standard input back, a case with its answer. An input that fills the room may be longer, and none of it is answered.
 pub fn run_input()
     ensures { λ r. ⌜ r ≡ tt ⌝ }
 {
     let mut input = input_room();
     let n = io::read_full(libc::STDIN_FILENO, &mut input);
-    lines::run(test_text::part(&input, 0, n));
     if n == 131072 {
-        replay_answers::too_long();
+        return replay_answers::too_long();
     }
+    lines::run(test_text::part(&input, 0, n));
 }
