@@ -47,7 +47,7 @@ archive() {
     if [ -n "${CABI_LIB-}" ]; then
         case $CABI_LIB in */libcabi.a) ;; *) stop "CABI_LIB is not the path of a libcabi.a: $CABI_LIB" ;; esac
         [ -r "$CABI_LIB" ] || stop "no such file: $CABI_LIB"
-        lib=$(cd "$(dirname "$CABI_LIB")" && pwd)
+        lib=$(CDPATH='' cd "$(dirname "$CABI_LIB")" && pwd)
         return
     fi
     command -v rt >/dev/null || stop "rt, the command of the Rattle kit, is not on the PATH"

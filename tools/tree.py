@@ -21,7 +21,7 @@ def exists(path):
 
 
 def files_below(folder, suffix=""):
-    """The files below a folder, by their paths from the root, but what git keeps and what is built."""
+    """The files below a folder, by their paths from the root, without .git and target."""
     found = []
     for top, folders, names in os.walk(os.path.join(ROOT, folder)):
         folders[:] = [f for f in folders if f not in (".git", "target")]
