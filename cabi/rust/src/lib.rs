@@ -107,7 +107,7 @@ pub struct Record<'a> {
 /// How a walk ends.
 #[derive(Debug, Clone, Copy, PartialEq, Eq)]
 pub struct End {
-    /// The place of the end. A record is appended by writing it here, over the stump, and ending the journal behind it.
+    /// The place of the end. A record is appended by writing it here, over the stump, and ending the journal behind it, within [`LIMIT`].
     pub place: usize,
     /// How many bytes stand behind it: 0 where the journal is whole, else it is cut.
     pub behind: usize,
