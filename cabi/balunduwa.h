@@ -125,8 +125,8 @@ balunduwa_written balunduwa_response_write(balunduwa_response response, const ui
 
 /* ---- The walk over a journal */
 
-/* What stands at a place: a record, the whole end, or the cut end. */
-enum { BALUNDUWA_RECORD = 0, BALUNDUWA_WHOLE = 1, BALUNDUWA_CUT = 2 };
+/* What stands at a place: a record, the whole end, or the cut end. The last is told by balunduwa_walk_next alone. */
+enum { BALUNDUWA_RECORD = 0, BALUNDUWA_WHOLE = 1, BALUNDUWA_CUT = 2, BALUNDUWA_REFUSED = 3 };
 
 /* Where a record stands: its type byte, its value, and in next the place behind it. At an end: tlv_type is 0, value is the bytes from the end's
  * place to the end of the buffer (none at a whole end, the stump at a cut one), and next is the end's place. To append a record, write it at next,
@@ -142,6 +142,19 @@ typedef struct {
 
 /* What stands at a place of the journal: 14, 15. */
 balunduwa_step balunduwa_walk_step(const uint8_t *buf, size_t buf_len, size_t place);
+
+/* The same in two registers, for a loop over many records: what, the type byte, and next as above. A record's value starts at place + 2 and ends at
+ * next; a stump starts at next and ends with the buffer. Where what is BALUNDUWA_REFUSED, refusal is the number, 14 or 15, and next is 0; its value is
+ * buf_len or place. */
+typedef struct {
+    size_t next;
+    uint8_t tlv_type;
+    uint8_t what;
+    uint8_t refusal;
+} balunduwa_next;
+
+/* What stands at a place of the journal: 14, 15. */
+balunduwa_next balunduwa_walk_next(const uint8_t *buf, size_t buf_len, size_t place);
 
 /* How many records the walk lists, and where it ends: whole where 0 bytes stand behind the place, else cut. */
 typedef struct {

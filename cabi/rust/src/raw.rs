@@ -84,6 +84,7 @@ pub struct ResponseAnswer {
 pub const RECORD: u8 = 0;
 pub const WHOLE: u8 = 1;
 pub const CUT: u8 = 2;
+pub const REFUSED: u8 = 3;
 
 #[repr(C)]
 #[derive(Debug, Clone, Copy, PartialEq, Eq)]
@@ -93,6 +94,15 @@ pub struct Step {
     pub tlv_type: u8,
     pub value: Span,
     pub next: usize,
+}
+
+#[repr(C)]
+#[derive(Debug, Clone, Copy, PartialEq, Eq)]
+pub struct Next {
+    pub next: usize,
+    pub tlv_type: u8,
+    pub what: u8,
+    pub refusal: u8,
 }
 
 #[repr(C)]
@@ -130,6 +140,7 @@ unsafe extern "C" {
     fn balunduwa_request_write(request: Request, src: *const u8, src_len: usize, buf: *mut u8, buf_len: usize) -> Written;
     fn balunduwa_response_write(response: Response, src: *const u8, src_len: usize, buf: *mut u8, buf_len: usize) -> Written;
     fn balunduwa_walk_step(buf: *const u8, buf_len: usize, place: usize) -> Step;
+    fn balunduwa_walk_next(buf: *const u8, buf_len: usize, place: usize) -> Next;
     fn balunduwa_walk_summary(buf: *const u8, buf_len: usize) -> Summary;
     fn balunduwa_kind_at(buf: *const u8, buf_len: usize, place: usize) -> Kind;
 }
@@ -210,6 +221,12 @@ pub fn response_write(response: Response, src: &[u8], buf: &mut [u8]) -> Written
 pub fn walk_step(buf: &[u8], place: usize) -> Step {
     // SAFETY: as in lv_read. The place is any number: it is tested.
     unsafe { balunduwa_walk_step(buf.as_ptr(), buf.len(), place) }
+}
+
+#[inline]
+pub fn walk_next(buf: &[u8], place: usize) -> Next {
+    // SAFETY: as in walk_step.
+    unsafe { balunduwa_walk_next(buf.as_ptr(), buf.len(), place) }
 }
 
 #[inline]

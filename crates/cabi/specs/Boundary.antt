@@ -1,7 +1,7 @@
 -- What crosses the boundary to C: how a struct holds an answer of document 01, and which values of the library stand for what C hands in.
 use mathlib.Core.Path.{_≡_}
-use Prim.Native.Nat.{ℕ}
-use mathlib.Core.List.{List, []}
+use Prim.Native.Nat.{ℕ, _+_, _-_}
+use mathlib.Core.List.{List, [], _∷_}
 use lib.ListN.{length, getD}
 use lib.Dec.{eqb}
 use Rattle.bluebook.specs.Layouts.{Entity}
@@ -39,6 +39,7 @@ use Rattle.cabi.specs.declared.RequestAnswer.{RequestAnswer}
 use Rattle.cabi.specs.declared.Response.{Response}
 use Rattle.cabi.specs.declared.ResponseAnswer.{ResponseAnswer}
 use Rattle.cabi.specs.declared.StepAnswer.{StepAnswer}
+use Rattle.cabi.specs.declared.NextAnswer.{NextAnswer}
 use Rattle.cabi.specs.declared.SummaryAnswer.{SummaryAnswer}
 use Rattle.cabi.specs.declared.KindAnswer.{KindAnswer}
 
@@ -171,6 +172,26 @@ noStep = found (record { place = 0; «tlv_type» = 0; value = noSpan }) 0
 
 abbrev pub stepAnswer : Answer Standing → StepAnswer
 stepAnswer = crossed stepOut noStep
+
+-- the same in two registers: without the span, and without a refusal's values. 3 is a refusal, and its number stands behind.
+
+abbrev pub nextBy : ℕ → ℕ → ℕ → ℕ → NextAnswer
+nextBy next kind what number = record { next = next; «tlv_type» = kind; what = what; refusal = number }
+
+abbrev pub nextAnswer : Answer Standing → NextAnswer
+nextAnswer (gives (found r next)) = nextBy next (r .«tlv_type») 0 0
+nextAnswer (gives (ended (Whole place))) = nextBy place 0 1 0
+nextAnswer (gives (ended (Cut place behind))) = nextBy place 0 2 0
+nextAnswer (refuses n vs) = nextBy 0 0 3 n
+
+-- what a step at the place p of n bytes tells, from two registers: a record's value starts behind the type and length bytes and ends at the next place, and
+-- a stump ends with the bytes. 14 carries n, and 15 carries p.
+abbrev pub stepOf : ℕ → ℕ → NextAnswer → StepAnswer
+stepOf n p x =
+    pick (eqb (x .what) 0) (stepBy (numbered 0 []) 0 (x .«tlv_type») (span (p + 2) (x .next - (p + 2))) (x .next))
+    (pick (eqb (x .what) 1) (stepBy (numbered 0 []) 1 0 (span (x .next) 0) (x .next))
+    (pick (eqb (x .what) 2) (stepBy (numbered 0 []) 2 0 (span (x .next) (n - x .next)) (x .next))
+    (stepBy (numbered (x .refusal) (pick (eqb (x .refusal) 14) n p ∷ [])) 0 0 noSpan 0)))
 
 -- a summary: the number of records, the place of the end, and how many bytes stand behind it
 

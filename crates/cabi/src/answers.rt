@@ -2,6 +2,7 @@
 use crate::EntityAnswer;
 use crate::KindAnswer;
 use crate::LvAnswer;
+use crate::NextAnswer;
 use crate::Numbered;
 use crate::Request;
 use crate::RequestAnswer;
@@ -39,7 +40,7 @@ ghost use Rattle.filestore_request.specs.Told.{toldRequest};
 ghost use Rattle.filestore_response.specs.Told.{toldResponse};
 ghost use Rattle.walk.specs.Told.{toldStep, toldSummary};
 ghost use Rattle.kind.specs.Told.{toldKind};
-ghost use Rattle.cabi.specs.Boundary.{numbered, noSpan, spanOf, hasSecond, secondSpan, requestOf, responseOf, stepBy, kindBy, writtenAnswer, lvAnswer, tlvAnswer, entityAnswer, requestAnswer, responseAnswer, stepAnswer, summaryAnswer, kindAnswer};
+ghost use Rattle.cabi.specs.Boundary.{numbered, noSpan, spanOf, hasSecond, secondSpan, requestOf, responseOf, stepBy, nextBy, kindBy, writtenAnswer, lvAnswer, tlvAnswer, entityAnswer, requestAnswer, responseAnswer, stepAnswer, nextAnswer, summaryAnswer, kindAnswer};
 
 // Where nothing is refused.
 fn none() -> Numbered
@@ -288,6 +289,41 @@ pub(crate) fn step(a: Step) -> StepAnswer
             End::Cut { place, behind } => at(none(), 2, place, behind),
         },
         Step::Refused(r) => at(refusal(r), 0, 0, 0),
+    }
+}
+
+// An end in two registers.
+fn end_next(next: usize, what: u8) -> NextAnswer
+    ensures { λ x. ⌜ x ≡ nextBy next 0 what 0 ⌝ }
+{
+    NextAnswer {
+        next,
+        tlv_type: 0,
+        what,
+        refusal: 0,
+    }
+}
+
+pub(crate) fn next(a: Step) -> NextAnswer
+    ensures { λ x. ⌜ x ≡ nextAnswer (toldStep a) ⌝ }
+{
+    match a {
+        Step::Record { record, next } => NextAnswer {
+            next,
+            tlv_type: record.tlv_type,
+            what: 0,
+            refusal: 0,
+        },
+        Step::End(end) => match end {
+            End::Whole(place) => end_next(place, 1),
+            End::Cut { place, behind: _ } => end_next(place, 2),
+        },
+        Step::Refused(r) => NextAnswer {
+            next: 0,
+            tlv_type: 0,
+            what: 3,
+            refusal: r.number(),
+        },
     }
 }
 

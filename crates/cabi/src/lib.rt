@@ -1,19 +1,25 @@
 // The library for C: each function is one call of the library, on numbers and lent bytes, and answers a struct by value. cabi/balunduwa.h declares
 // them again for C. An answer begins with a refusal, number 0 where there is none; behind it stands what the call gives, 0 where it refuses.
+// Where something is given, a call returns at once: so LLVM keeps that way apart from the refusals' and has nothing to move from one to the other.
 mod answers;
 mod arguments;
 
+use entity_id::EntityIdRead;
 use entity_id::EntityIdTlv;
 use entity_id::UnsignedByteField;
+use filestore_base::SecondName;
 use filestore_request::FilestoreRequestRead;
 use filestore_request::FilestoreRequestTlv;
 use filestore_response::FilestoreResponseRead;
 use filestore_response::FilestoreResponseTlv;
 use kind::kind_at;
 use lv::Lv;
+use lv::LvRead;
 use refusal::Written;
 use tlv::Tlv;
+use tlv::TlvRead;
 use tlv::TlvTypeField;
+use walk::Step;
 use walk::step_at;
 use walk::summary_of;
 ghost use mathlib.Core.Path.{_≡_};
@@ -25,7 +31,7 @@ ghost use Rattle.filestore_request.specs.Rules.{readRequest, strictRequest};
 ghost use Rattle.filestore_response.specs.Rules.{readResponse, strictResponse};
 ghost use Rattle.walk.specs.Rules.{stepAt, summaryOf};
 ghost use Rattle.kind.specs.Rules.{kindAt};
-ghost use Rattle.cabi.specs.Boundary.{lvAnswer, tlvAnswer, entityAnswer, requestAnswer, responseAnswer, stepAnswer, summaryAnswer, kindAnswer, Sent};
+ghost use Rattle.cabi.specs.Boundary.{lvAnswer, tlvAnswer, entityAnswer, requestAnswer, responseAnswer, stepAnswer, nextAnswer, summaryAnswer, kindAnswer, Sent};
 ghost use Rattle.cabi.specs.Boundary.{spanIn, writeRequest, writeResponse};
 
 // A refusal: its number and its values, 0 for each that it does not carry.
@@ -110,6 +116,16 @@ pub struct StepAnswer {
     pub next: usize,
 }
 
+// The same, in two registers. A record's value starts at its place and 2, and ends at `next`; a stump ends with the buffer. `what` is 3 where the call
+// refuses: `refusal` is the number, and its value is the buffer's length (14) or the place (15).
+#[repr(C)]
+pub struct NextAnswer {
+    pub next: usize,
+    pub tlv_type: u8,
+    pub what: u8,
+    pub refusal: u8,
+}
+
 #[repr(C)]
 pub struct SummaryAnswer {
     pub refusal: Numbered,
@@ -129,7 +145,11 @@ pub struct KindAnswer {
 pub extern "C" fn balunduwa_lv_read(buf: &[u8]) -> LvAnswer
     ensures { λ r. ⌜ r ≡ lvAnswer (readLv (now (buf .entry))) ⌝ }
 {
-    answers::lv(Lv::from_bytes(buf))
+    let a = Lv::from_bytes(buf);
+    if let LvRead::Read(v) = a {
+        return answers::lv(LvRead::Read(v));
+    }
+    answers::lv(a)
 }
 
 #[no_mangle]
@@ -137,14 +157,22 @@ pub extern "C" fn balunduwa_lv_write(value: Span, src: &[u8], buf: &mut [u8]) ->
     ensures { λ r. ⌜ Sent (writeLv (spanIn value) (now (src .entry)) (length (now (buf .entry)))) r (now (buf .entry)) (now (buf .exit)) ⌝ }
 {
     let l = arguments::span_in(value);
-    answers::written(l.write_to_slice(src, buf))
+    let a = l.write_to_slice(src, buf);
+    if let Written::Bytes(v) = a {
+        return answers::written(Written::Bytes(v));
+    }
+    answers::written(a)
 }
 
 #[no_mangle]
 pub extern "C" fn balunduwa_tlv_read(buf: &[u8]) -> TlvAnswer
     ensures { λ r. ⌜ r ≡ tlvAnswer (readTlv (now (buf .entry))) ⌝ }
 {
-    answers::tlv(Tlv::from_bytes(buf))
+    let a = Tlv::from_bytes(buf);
+    if let TlvRead::Read(v) = a {
+        return answers::tlv(TlvRead::Read(v));
+    }
+    answers::tlv(a)
 }
 
 // The type byte is written as it is: a custom label has any number.
@@ -162,14 +190,22 @@ pub extern "C" fn balunduwa_tlv_write(
         tlv_type_field: TlvTypeField::Custom(tlv_type),
         lv,
     };
-    answers::written(tlv.write_to_slice(src, buf))
+    let a = tlv.write_to_slice(src, buf);
+    if let Written::Bytes(v) = a {
+        return answers::written(Written::Bytes(v));
+    }
+    answers::written(a)
 }
 
 #[no_mangle]
 pub extern "C" fn balunduwa_entity_read(buf: &[u8]) -> EntityAnswer
     ensures { λ r. ⌜ r ≡ entityAnswer (readEntity (now (buf .entry))) ⌝ }
 {
-    answers::entity(EntityIdTlv::from_bytes(buf))
+    let a = EntityIdTlv::from_bytes(buf);
+    if let EntityIdRead::Read(v) = a {
+        return answers::entity(EntityIdRead::Read(v));
+    }
+    answers::entity(a)
 }
 
 #[no_mangle]
@@ -179,14 +215,36 @@ pub extern "C" fn balunduwa_entity_write(width: usize, value: u64, buf: &mut [u8
     let entity = EntityIdTlv {
         entity_id: UnsignedByteField { width, value },
     };
-    answers::written(entity.write_to_slice(buf))
+    let a = entity.write_to_slice(buf);
+    if let Written::Bytes(v) = a {
+        return answers::written(Written::Bytes(v));
+    }
+    answers::written(a)
 }
 
 #[no_mangle]
 pub extern "C" fn balunduwa_request_read(buf: &[u8]) -> RequestAnswer
     ensures { λ r. ⌜ r ≡ requestAnswer (readRequest (now (buf .entry))) ⌝ }
 {
-    answers::request(FilestoreRequestTlv::from_bytes(buf))
+    let a = FilestoreRequestTlv::from_bytes(buf);
+    if let FilestoreRequestRead::Read(v) = a {
+        let action_code = v.action_code;
+        let first_name = v.first_name;
+        let second_name = v.second_name;
+        if let SecondName::There(l) = second_name {
+            return answers::request(FilestoreRequestRead::Read(FilestoreRequestTlv {
+                action_code,
+                first_name,
+                second_name: SecondName::There(l),
+            }));
+        }
+        return answers::request(FilestoreRequestRead::Read(FilestoreRequestTlv {
+            action_code,
+            first_name,
+            second_name: SecondName::Absent,
+        }));
+    }
+    answers::request(a)
 }
 
 #[no_mangle]
@@ -206,7 +264,13 @@ pub extern "C" fn balunduwa_request_write(
     ensures { λ r. ⌜ Sent (writeRequest request (now (src .entry)) (length (now (buf .entry)))) r (now (buf .entry)) (now (buf .exit)) ⌝ }
 {
     match arguments::request(request) {
-        FilestoreRequestRead::Read(q) => answers::written(q.write_to_slice(src, buf)),
+        FilestoreRequestRead::Read(q) => {
+            let a = q.write_to_slice(src, buf);
+            if let Written::Bytes(v) = a {
+                return answers::written(Written::Bytes(v));
+            }
+            answers::written(a)
+        }
         FilestoreRequestRead::Refused(r) => answers::written(Written::Refused(r)),
     }
 }
@@ -215,7 +279,11 @@ pub extern "C" fn balunduwa_request_write(
 pub extern "C" fn balunduwa_response_read(buf: &[u8]) -> ResponseAnswer
     ensures { λ r. ⌜ r ≡ responseAnswer (readResponse (now (buf .entry))) ⌝ }
 {
-    answers::response(FilestoreResponseTlv::from_bytes(buf))
+    let a = FilestoreResponseTlv::from_bytes(buf);
+    if let FilestoreResponseRead::Read(v) = a {
+        return answers::response(FilestoreResponseRead::Read(v));
+    }
+    answers::response(a)
 }
 
 #[no_mangle]
@@ -235,7 +303,13 @@ pub extern "C" fn balunduwa_response_write(
     ensures { λ r. ⌜ Sent (writeResponse response (now (src .entry)) (length (now (buf .entry)))) r (now (buf .entry)) (now (buf .exit)) ⌝ }
 {
     match arguments::response(response) {
-        FilestoreResponseRead::Read(q) => answers::written(q.write_to_slice(src, buf)),
+        FilestoreResponseRead::Read(q) => {
+            let a = q.write_to_slice(src, buf);
+            if let Written::Bytes(v) = a {
+                return answers::written(Written::Bytes(v));
+            }
+            answers::written(a)
+        }
         FilestoreResponseRead::Refused(r) => answers::written(Written::Refused(r)),
     }
 }
@@ -244,7 +318,23 @@ pub extern "C" fn balunduwa_response_write(
 pub extern "C" fn balunduwa_walk_step(buf: &[u8], place: usize) -> StepAnswer
     ensures { λ r. ⌜ r ≡ stepAnswer (stepAt (now (buf .entry)) place) ⌝ }
 {
-    answers::step(step_at(buf, place))
+    let a = step_at(buf, place);
+    if let Step::Record { record, next } = a {
+        return answers::step(Step::Record { record, next });
+    }
+    answers::step(a)
+}
+
+// The same in two registers.
+#[no_mangle]
+pub extern "C" fn balunduwa_walk_next(buf: &[u8], place: usize) -> NextAnswer
+    ensures { λ r. ⌜ r ≡ nextAnswer (stepAt (now (buf .entry)) place) ⌝ }
+{
+    let a = step_at(buf, place);
+    if let Step::Record { record, next } = a {
+        return answers::next(Step::Record { record, next });
+    }
+    answers::next(a)
 }
 
 #[no_mangle]

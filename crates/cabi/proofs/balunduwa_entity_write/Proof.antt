@@ -1,12 +1,15 @@
 -- `cabi::balunduwa_entity_write` meets its contract: the call's answer crosses. Assumes nothing.
 use mathlib.Core.Path.{refl}
-use Rattle.cabi.proofs.Laws.{sent}
+use Rattle.cabi.proofs.Laws.{sent, sent-as}
 use borrow.Author.Needs.{needs}
 use Rattle.cabi.proofs.balunduwa_entity_write.Statement.{statement}
 use Rattle.cabi.proofs.balunduwa_entity_write.Tie as tie
 
 write-to-slice-requires : tie.Need-write-to-slice-requires
 write-to-slice-requires c κs = search needs
+
+enum-known-a : tie.Need-enum-known-a
+enum-known-a c = search needs
 
 written-requires : tie.Need-written-requires
 written-requires c κs = search needs
@@ -15,8 +18,20 @@ same-length : tie.Need-same-length
 same-length c = search needs
 
 returns : tie.Need-returns
-returns c = sent refl (c .written .ensures) (c .before .before .before .write-to-slice .ensures)
+returns c = sent-as refl (c .written .ensures) (c .before .before .a .given .1) (c .before .before .before .before .before .before .write-to-slice .ensures)
+
+enum-told : tie.Need-enum-told
+enum-told c = search needs
+
+written-requires-2 : tie.Need-written-requires-2
+written-requires-2 c κs = search needs
+
+same-length-2 : tie.Need-same-length-2
+same-length-2 c = search needs
+
+returns-2 : tie.Need-returns-2
+returns-2 c = sent refl (c .written2 .ensures) (c .before .before .before .before .before .write-to-slice .ensures)
 
 pub balunduwa-entity-write-spec : {M : Type 1} → statement M
 balunduwa-entity-write-spec =
-    tie.close (tie.spec write-to-slice-requires written-requires same-length returns)
+    tie.close (tie.spec write-to-slice-requires enum-known-a written-requires same-length returns enum-told written-requires-2 same-length-2 returns-2)

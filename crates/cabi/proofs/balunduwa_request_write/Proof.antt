@@ -5,7 +5,7 @@ use lib.ListN.{length}
 use Rattle.filestore_base.specs.Rules.{writeBase}
 use Rattle.filestore_request.specs.Rules.{requestBase}
 use Rattle.filestore_request.specs.Told.{toldRequest}
-use Rattle.cabi.proofs.Laws.{sent, unsent, given, ungiven}
+use Rattle.cabi.proofs.Laws.{sent, sent-as, unsent, given, ungiven}
 use borrow.Author.Needs.{needs}
 use Rattle.cabi.proofs.balunduwa_request_write.Statement.{statement}
 use Rattle.cabi.proofs.balunduwa_request_write.Tie as tie
@@ -19,23 +19,38 @@ enum-known-q c = search needs
 write-to-slice-requires : tie.Need-write-to-slice-requires
 write-to-slice-requires c κs = search needs
 
+enum-known-a : tie.Need-enum-known-a
+enum-known-a c = search needs
+
 written-requires : tie.Need-written-requires
 written-requires c κs = search needs
-
-enum-known-r : tie.Need-enum-known-r
-enum-known-r c = search needs
-
-written-requires-2 : tie.Need-written-requires-2
-written-requires-2 c κs = search needs
 
 same-length : tie.Need-same-length
 same-length c = search needs
 
 returns : tie.Need-returns
-returns c = sent (given (λ x. writeBase (requestBase x) (now (c .before .before .before .before .before .before .before .before .before .before .before .args .src)) (length (now (c .before .before .before .before .before .before .before .before .before .before .before .args .buf)))) (sym (ap toldRequest (c .before .before .before .before .before .before .q .given .1)) ∙ c .before .before .before .before .before .before .before .before .request .ensures)) (c .written .ensures) (c .before .before .before .write-to-slice .ensures)
+returns c = sent-as (given (λ x. writeBase (requestBase x) (now (c .before .before .before .before .before .before .before .before .before .before .before .before .before .before .args .src)) (length (now (c .before .before .before .before .before .before .before .before .before .before .before .before .before .before .args .buf)))) (sym (ap toldRequest (c .before .before .before .before .before .before .before .before .before .q .given .1)) ∙ c .before .before .before .before .before .before .before .before .before .before .before .request .ensures)) (c .written .ensures) (c .before .before .a .given .1) (c .before .before .before .before .before .before .write-to-slice .ensures)
+
+enum-told : tie.Need-enum-told
+enum-told c = search needs
+
+written-requires-2 : tie.Need-written-requires-2
+written-requires-2 c κs = search needs
+
+enum-known-r : tie.Need-enum-known-r
+enum-known-r c = search needs
+
+written-requires-3 : tie.Need-written-requires-3
+written-requires-3 c κs = search needs
+
+same-length-2 : tie.Need-same-length-2
+same-length-2 c = search needs
 
 returns-2 : tie.Need-returns-2
-returns-2 c = unsent (ungiven (λ x. writeBase (requestBase x) (now (c .before .before .before .before .before .before .before .args .src)) (length (now (c .before .before .before .before .before .before .before .args .buf)))) (sym (ap toldRequest (c .before .before .r .given .1)) ∙ c .before .before .before .before .request .ensures)) (c .written2 .ensures)
+returns-2 c = sent (given (λ x. writeBase (requestBase x) (now (c .before .before .before .before .before .before .before .before .before .before .before .before .before .args .src)) (length (now (c .before .before .before .before .before .before .before .before .before .before .before .before .before .args .buf)))) (sym (ap toldRequest (c .before .before .before .before .before .before .before .before .q .given .1)) ∙ c .before .before .before .before .before .before .before .before .before .before .request .ensures)) (c .written2 .ensures) (c .before .before .before .before .before .write-to-slice .ensures)
+
+returns-3 : tie.Need-returns-3
+returns-3 c = unsent (ungiven (λ x. writeBase (requestBase x) (now (c .before .before .before .before .before .before .before .args .src)) (length (now (c .before .before .before .before .before .before .before .args .buf)))) (sym (ap toldRequest (c .before .before .r .given .1)) ∙ c .before .before .before .before .request .ensures)) (c .written3 .ensures)
 
 pub balunduwa-request-write-spec : {M : Type 1} → statement M
 balunduwa-request-write-spec =
@@ -44,9 +59,14 @@ balunduwa-request-write-spec =
     request-requires
     enum-known-q
     write-to-slice-requires
+    enum-known-a
     written-requires
-    enum-known-r
-    written-requires-2
     same-length
     returns
-    returns-2)
+    enum-told
+    written-requires-2
+    enum-known-r
+    written-requires-3
+    same-length-2
+    returns-2
+    returns-3)

@@ -1,17 +1,11 @@
 -- `cabi::answers::step` meets its contract: each case crosses as it is told. Assumes nothing.
-use mathlib.Core.Path.{_≡_, ap, _∙_}
+use mathlib.Core.Path.{_∙_}
 use Rattle.walk.specs.Told.{toldStep}
-use Rattle.walk.specs.declared.End.{End}
-use Rattle.walk.specs.declared.Step.{Step}
-use Rattle.walk.specs.declared.Step.the-variants.{End as Ended}
 use Rattle.cabi.specs.Boundary.{stepOut, noStep}
-use Rattle.cabi.proofs.Laws.{told-out}
+use Rattle.cabi.proofs.Laws.{told-out, ended}
 use borrow.Author.Needs.{needs}
 use Rattle.cabi.proofs.answers.step.Statement.{statement}
 use Rattle.cabi.proofs.answers.step.Tie as tie
-
-ended : {a : Step} {e f : End} → a ≡ Ended e → e ≡ f → a ≡ Ended f
-ended p q = p ∙ ap Ended q
 
 enum-known-a : tie.Need-enum-known-a
 enum-known-a c = search needs
