@@ -291,14 +291,27 @@ static void test_response(void) {
 static const uint8_t journal[] = {0x05, 0x01, 0xAA, 0x06, 0x01, 0x07};
 static const uint8_t long_journal[BALUNDUWA_LIMIT + 1];
 
+/* The same step in two registers. */
+static void next(int line, const uint8_t *buf, size_t n, size_t place, balunduwa_step expected) {
+    int refused = expected.refusal.number != 0;
+    balunduwa_next a = balunduwa_walk_next(buf, n, place);
+    calls++;
+    same(line, "what stands there, in registers", a.what, refused ? BALUNDUWA_REFUSED : expected.what);
+    same(line, "the refusal, in registers", a.refusal, expected.refusal.number);
+    same(line, "the type, in registers", a.tlv_type, expected.tlv_type);
+    same(line, "the next place, in registers", a.next, expected.next);
+}
+
 static void step(int line, size_t n, size_t place, balunduwa_step expected) {
-    balunduwa_step a = balunduwa_walk_step(n > sizeof journal ? long_journal : journal, n, place);
+    const uint8_t *buf = n > sizeof journal ? long_journal : journal;
+    balunduwa_step a = balunduwa_walk_step(buf, n, place);
     calls++;
     same_refusal(line, a.refusal, expected.refusal);
     same(line, "what stands there", a.what, expected.what);
     same(line, "the type", a.tlv_type, expected.tlv_type);
     same_span(line, "the value's start", "the value's length", a.value, expected.value);
     same(line, "the next place", a.next, expected.next);
+    next(line, buf, n, place, expected);
 }
 #define STEP(n, place, ...) step(__LINE__, n, place, (balunduwa_step){__VA_ARGS__})
 

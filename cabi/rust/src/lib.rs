@@ -221,16 +221,15 @@ pub fn write_response(response: Response, src: &[u8], buf: &mut [u8]) -> Result<
     written(raw::response_write(response, src, buf))
 }
 
-/// What stands at a place of the journal.
+/// What stands at a place of the journal. The call answers in two registers: a record's value ends at the next place, a stump with the journal, and a
+/// refusal's value is the journal's length or the place.
 pub fn step(journal: &[u8], place: usize) -> Result<Step<'_>, Refusal> {
-    let answer = raw::walk_step(journal, place);
-    given(answer.refusal)?;
-    if answer.what != raw::RECORD {
-        return Ok(Step::End(End { place: answer.next, behind: answer.value.len }));
+    let raw::Next { next, tlv_type, what, refusal } = raw::walk_next(journal, place);
+    match what {
+        raw::RECORD => Ok(Step::Record(Record { place, tlv_type, value: &journal[place + 2..next] }, next)),
+        raw::REFUSED => Err(Refusal { number: refusal.into(), first: if refusal == 14 { journal.len() } else { place }, second: 0 }),
+        _ => Ok(Step::End(End { place: next, behind: journal.len() - next })),
     }
-    let start = answer.value.start;
-    let value = &journal[start..start + answer.value.len];
-    Ok(Step::Record(Record { place, tlv_type: answer.tlv_type, value }, answer.next))
 }
 
 /// The records of the journal, from its first byte on.

@@ -192,6 +192,39 @@ fn walk() {
     assert_eq!(kind_at(&too_long, 0), refuses(14, LIMIT + 1, 0));
 }
 
+/// The step as `walk_step` of the library tells it, whose answer has every field.
+fn whole_step(journal: &[u8], place: usize) -> Result<Step<'_>, Refusal> {
+    let raw::Step { refusal, what, tlv_type, value, next } = raw::walk_step(journal, place);
+    match (refusal.number, what) {
+        (0, raw::RECORD) => Ok(Step::Record(Record { place, tlv_type, value: Span::from(value).of(journal).unwrap() }, next)),
+        (0, _) => Ok(Step::End(End { place: next, behind: value.len })),
+        _ => refuses(refusal.number, refusal.first, refusal.second),
+    }
+}
+
+#[test]
+fn a_step_is_told_alike_by_both_calls() {
+    let mut journal = [0; 40];
+    for seed in 0..200u32 {
+        let mut random = seed;
+        for byte in &mut journal {
+            random = random.wrapping_mul(1664525).wrapping_add(1013904223);
+            *byte = (random >> 24) as u8 % 9;
+        }
+        for len in 0..=journal.len() {
+            for place in (0..=len + 2).chain([usize::MAX - 1, usize::MAX]) {
+                assert_eq!(step(&journal[..len], place), whole_step(&journal[..len], place));
+            }
+        }
+    }
+    let zeros = vec![0; LIMIT + 1];
+    for len in [LIMIT, LIMIT + 1] {
+        for place in [0, LIMIT - 2, LIMIT - 1, LIMIT, LIMIT + 1, LIMIT + 2] {
+            assert_eq!(step(&zeros[..len], place), whole_step(&zeros[..len], place));
+        }
+    }
+}
+
 #[test]
 fn a_refusal_is_an_error() {
     let refusal = read_lv(&[]).unwrap_err();
