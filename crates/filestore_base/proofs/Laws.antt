@@ -247,21 +247,26 @@ module _ (b : FilestoreTlvBase) (src old : List ℕ) where
         e₃ ∙ ap (laid next y) (e₂ ∙ ap (laid at x) e₁ ∙ ap (λ (k : ℕ). laid k x (laid 3 v old)) p ∙ laid-behind 3 v x old (omega (arith, lv-is, lx)))
         ∙ ap (λ (k : ℕ). laid k y (laid 3 (v ++ x) old)) q ∙ laid-behind 3 (v ++ x) y old (omega (arith, lv-is, lx, ly, length-append v x))
 
-    -- three bytes stored, and the parts laid behind them
-    pub writeBase-room : (t n o : ℕ) (new : List ℕ) → lenOf b + 2 ≤ length old → t ≡ kindOf (isThere (b .message)) → n ≡ lenOf b → o ≡ codeOf (b .«action_code») * 16 + b .«low_bits»
-        → new ≡ laid 3 (partsOf (meaning b src)) (set (set (set old 0 t) 1 n) 2 o) → Wrote 0 (writeBase b src (length old)) (gives (n + 2)) old new
+    -- the head stored, which is three bytes, and the parts laid behind it
+    pub writeBase-room : (n : ℕ) (head new : List ℕ) → lenOf b + 2 ≤ length old → n ≡ lenOf b
+        → head ≡ set (set (set old 0 (kindOf (isThere (b .message)))) 1 (lenOf b)) 2 (codeOf (b .«action_code») * 16 + b .«low_bits»)
+        → new ≡ laid 3 (partsOf (meaning b src)) head → Wrote 0 (writeBase b src (length old)) (gives (n + 2)) old new
     unfolding writeBase
-    writeBase-room t n o new room et en eo e =
+    writeBase-room n head new room en eh e =
         let m = meaning b src in
+        let t = kindOf (isThere (b .message)) in
+        let l = lenOf b in
+        let o = codeOf (b .«action_code») * 16 + b .«low_bits» in
         let v = length-value b src (writable b src fine .spans) in
         let k : length (set old 0 t) ≡ length old = length-set old 0 t in
-        let j : length (set (set old 0 t) 1 n) ≡ length old = length-set (set old 0 t) 1 n ∙ k in
+        let j : length (set (set old 0 t) 1 l) ≡ length old = length-set (set old 0 t) 1 l ∙ k in
         wrote-passed fine
         (wrote 0 old _ (filedTlv m) new (n + 2) (roomFor-in (length old) (filedTlv m) (omega (arith, length-tlv))) (ap (λ (j : ℕ). j + 2) en ∙ sym length-tlv)
-        (e ∙ laid-cons 2 o (partsOf m) (set (set old 0 t) 1 n) (omega (arith, v, j))
-        ∙ laid-cons 1 n (o ∷ partsOf m) (set old 0 t) (omega (arith, v, k))
-        ∙ laid-cons 0 t (n ∷ o ∷ partsOf m) old (omega (arith, v))
-        ∙ (λ i. laid 0 ((et ∙ ap kindOf (sym (there-if (b .message) src))) i ∷ (en ∙ sym v) i ∷ eo i ∷ partsOf m) old)))
+        (e ∙ ap (laid 3 (partsOf m)) eh
+        ∙ laid-cons 2 o (partsOf m) (set (set old 0 t) 1 l) (omega (arith, v, j))
+        ∙ laid-cons 1 l (o ∷ partsOf m) (set old 0 t) (omega (arith, v, k))
+        ∙ laid-cons 0 t (l ∷ o ∷ partsOf m) old (omega (arith, v))
+        ∙ (λ i. laid 0 (ap kindOf (sym (there-if (b .message) src)) i ∷ sym v i ∷ o ∷ partsOf m) old)))
 
 -- ---- comparing
 

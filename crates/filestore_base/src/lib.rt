@@ -1,6 +1,6 @@
 // What a filestore request and a filestore response have in common: an action, its names, four low bits, and a message or none.
 // A port of FilestoreTlvBase of src/cfdp/tlv/mod.rs of spacepackets 0.19.0 and of what both TLVs share, changed: spans for slices, numbered
-// answers, and one test and one writer for both. The crate filestore_reader reads them; filestore_request and filestore_response have the TLVs.
+// answers, and one test for both. The crate filestore_reader reads them; filestore_request and filestore_response have the TLVs.
 use action::FilestoreActionCode;
 use lv::Lv;
 use refusal::Checked;
@@ -10,15 +10,15 @@ use refusal::Sameness;
 use refusal::Written;
 use tlv::TlvType;
 ghost use mathlib.Core.Path.{_≡_};
-ghost use Prim.Native.Nat.{_+_, _≤_};
-ghost use lib.ListN.{length};
+ghost use Prim.Native.Nat.{_+_, _*_, _≤_};
+ghost use lib.ListN.{length, set};
 ghost use Rattle.bluebook.specs.Layouts.{lvIf};
 ghost use Rattle.refusal.specs.Answer.{gives};
 ghost use Rattle.refusal.specs.Told.{toldWritten, toldChecked, toldLength, toldSameness};
 ghost use Rattle.splice.specs.Laid.{laid};
 ghost use Rattle.splice.specs.Writing.{Wrote};
-ghost use Rattle.action.specs.Rules.{dueOf};
-ghost use Rattle.filestore_base.specs.Meaning.{bytesIf, isThere, partIf, typeIn, meaning, partsOf};
+ghost use Rattle.action.specs.Rules.{codeOf, dueOf};
+ghost use Rattle.filestore_base.specs.Meaning.{bytesIf, isThere, partIf, typeIn, kindOf, baseOf, meaning, partsOf};
 ghost use Rattle.filestore_base.specs.Rules.{spanIf, sizeIf, lenIf, FitsIf, dueTest, statusTest, partsTest, lenOf, buildTest, spansTest, lenValue, lenFull, writeTest, writeBase, sameIf, sameOctet, sameParts, sameBase};
 
 // A second name is either there, with its span, or absent. The message of a `FilestoreTlvBase` is too: a request has none.
@@ -251,6 +251,29 @@ impl FilestoreTlvBase {
         message.span_test(buf)
     }
 
+    // What a writer tests before the room: the building tests, then 15.
+    fn write_test(self, src: &[u8]) -> Checked
+        ensures { λ r. ⌜ toldChecked r ≡ writeTest self (now (src .entry)) ⌝ }
+    {
+        let test = self.build_test();
+        if let Checked::Refused(r) = test {
+            return Checked::Refused(r);
+        }
+        self.span_test(src)
+    }
+
+    // Stores the type, the length and the value's first byte.
+    fn put_head(self, buf: &mut [u8])
+        requires { ⌜ (gives tt ≡ buildTest self) × (lenOf self + 2 ≤ length (now buf)) ⌝ }
+        ensures { λ _. ⌜ now (buf .exit) ≡ set (set (set (now (buf .entry)) 0 (kindOf (isThere (self .message)))) 1 (lenOf self)) 2 (codeOf (self .«action_code») * 16 + self .«low_bits») ⌝ }
+    {
+        let action = self.action_code;
+        let message = self.message;
+        buf[0] = tlv_type(message.is_there()).to_byte();
+        buf[1] = self.len() as u8;
+        buf[2] = action.to_code() * 16 + self.low_bits;
+    }
+
     // Writes the names and the message behind the value's first byte.
     fn put_parts(self, src: &[u8], buf: &mut [u8])
         requires { ⌜ (gives tt ≡ writeTest self (now src)) × (lenOf self + 2 ≤ length (now buf)) ⌝ }
@@ -269,26 +292,47 @@ impl FilestoreTlvBase {
     pub fn write_to_slice(self, src: &[u8], buf: &mut [u8]) -> Written
         ensures { λ r. ⌜ Wrote 0 (writeBase self (now (src .entry)) (length (now (buf .entry)))) (toldWritten r) (now (buf .entry)) (now (buf .exit)) ⌝ }
     {
-        let test = self.build_test();
+        let test = self.write_test(src);
         if let Checked::Refused(r) = test {
             return Written::Refused(r);
         }
-        let test = self.span_test(src);
-        if let Checked::Refused(r) = test {
-            return Written::Refused(r);
-        }
-        let len = self.len();
         let found = buf.len();
-        let expected = len + 2;
+        let expected = self.len() + 2;
         if found < expected {
             return Written::Refused(Refusal::ToSliceTooSmall { found, expected });
         }
-        let action = self.action_code;
-        let message = self.message;
-        buf[0] = tlv_type(message.is_there()).to_byte();
-        buf[1] = len as u8;
-        buf[2] = action.to_code() * 16 + self.low_bits;
+        self.put_head(buf);
         self.put_parts(src, buf);
+        Written::Bytes(expected)
+    }
+
+    // The same without the message: a request. A writer for each kind, so that each has one caller, into which LLVM inlines it, and the tests for a
+    // message drop out here. A request through `write_to_slice` would take half as many instructions again.
+    pub fn write_request(self, src: &[u8], buf: &mut [u8]) -> Written
+        ensures { λ r. ⌜ Wrote 0 (writeBase (baseOf (self .«action_code») (self .«low_bits») (self .«first_name») (self .«second_name») SecondName.Absent) (now (src .entry)) (length (now (buf .entry)))) (toldWritten r) (now (buf .entry)) (now (buf .exit)) ⌝ }
+    {
+        let action_code = self.action_code;
+        let first_name = self.first_name;
+        let second_name = self.second_name;
+        let request = FilestoreTlvBase {
+            action_code,
+            low_bits: self.low_bits,
+            first_name,
+            second_name,
+            message: SecondName::Absent,
+        };
+        let test = request.write_test(src);
+        if let Checked::Refused(r) = test {
+            return Written::Refused(r);
+        }
+        let found = buf.len();
+        let expected = request.len() + 2;
+        if found < expected {
+            return Written::Refused(Refusal::ToSliceTooSmall { found, expected });
+        }
+        request.put_head(buf);
+        first_name.write_at(src, buf, 3);
+        second_name.put(src, buf, first_name.len + 4);
         Written::Bytes(expected)
     }
 

@@ -16,12 +16,14 @@ use Rattle.refusal.proofs.Laws.{mapped-by, mapA-refused, mapA-mapA}
 use Rattle.refusal.proofs.Readers.{rest-at}
 use Rattle.lv.specs.Rules.{span, takeLv, readLvAt}
 use Rattle.lv.specs.declared.Lv.{Lv}
-use Rattle.lv.proofs.Laws.{readLvAt-in}
+use Rattle.lv.proofs.Laws.{readLvAt-in, readLvAt-none}
 use Rattle.lv.proofs.Theorems.{exactly-lv}
 use Rattle.tlv.specs.Rules.{takeOf, lenOfType}
 use Rattle.tlv.proofs.Theorems as tlvs
 use Rattle.action.specs.Rules.{codeOf, actionAt, actionOf, dueOf}
+use Rattle.action.specs.Told.{toldAction}
 use Rattle.action.specs.declared.FilestoreActionCode.{FilestoreActionCode}
+use Rattle.action.specs.declared.ActionCodeRead.{ActionCodeRead}
 use Rattle.action.proofs.Laws.{code-back, actionOf-known, actionOf-none}
 use Rattle.filestore_base.specs.Meaning.{Filed, filed, kindOf, baseOf, isThere, secondAt, endOf}
 use Rattle.filestore_base.specs.declared.SecondName.{SecondName}
@@ -161,6 +163,13 @@ pub readNames-is : (bs : List ℕ) (end : ℕ) (a : FilestoreActionCode) (low : 
 unfolding readNames
 readNames-is bs end a low d = refl
 
+-- no first name, whatever the action
+pub readNames-none : (bs : List ℕ) (end : ℕ) (a : FilestoreActionCode) (low : ℕ) (d : Bool) → end ≡ 3 → end ≤ length bs → readNames bs end a low d ≡ refuses 1 (0 ∷ 1 ∷ [])
+readNames-none bs end a low d e k =
+    let z : end - 3 ≡ 0 = omega arith in
+    sym (readNames-is bs end a low d)
+    ∙ ap (λ (y : Answer Lv). andThen y (λ f. readBehind bs end a low f d)) (readLvAt-none bs 3 end k (omega arith) (omega arith) ∙ ap (λ (n : ℕ). refuses 1 (n ∷ 1 ∷ [])) z)
+
 -- ---- the value
 
 module _ (bs : List ℕ) (end : ℕ) (d : Bool) where
@@ -211,12 +220,16 @@ module _ (bs : List ℕ) (end : ℕ) (d : Bool) where
     none-such q = ap (λ (l : List ℕ). mapA found (takeValue d l)) (slice-cons 2 end bs 0 h k) ∙ simp (le-ltb (o / 16) (length actions) q)
 
     -- what the first byte's action answers, and then the names
-    pub readValue-octet : readValue bs end d ≡ andThen (actionOf (o / 16)) (λ a. readNames bs end a (o % 16) d)
+    readValue-octet : readValue bs end d ≡ andThen (actionOf (o / 16)) (λ a. readNames bs end a (o % 16) d)
     readValue-octet = go (ltb (o / 16) (length actions)) refl
       where
         go : (t : Bool) → ltb (o / 16) (length actions) ≡ t → readValue bs end d ≡ andThen (actionOf (o / 16)) (λ a. readNames bs end a (o % 16) d)
         go true p = let q = ltb-true _ _ p in known q ∙ sym (ap (λ (x : Answer FilestoreActionCode). andThen x (λ a. readNames bs end a (o % 16) d)) (actionOf-known (o / 16) q))
         go false p = let q = ltb-false _ _ p in none-such q ∙ sym (ap (λ (x : Answer FilestoreActionCode). andThen x (λ a. readNames bs end a (o % 16) d)) (actionOf-none (o / 16) q))
+
+    -- the same, of what the action's number told, by the arm x that it led to
+    pub readValue-told : {r x : ActionCodeRead} → toldAction r ≡ actionOf (o / 16) → r ≡ x → andThen (toldAction x) (λ a. readNames bs end a (o % 16) d) ≡ readValue bs end d
+    readValue-told e f = ap (λ (y : Answer FilestoreActionCode). andThen y (λ a. readNames bs end a (o % 16) d)) (sym (ap toldAction f) ∙ e) ∙ sym readValue-octet
 
 -- ---- the whole TLV
 

@@ -12,8 +12,10 @@ use refusal::Length;
 use refusal::Refusal;
 use tlv::Tlv;
 ghost use mathlib.Core.Path.{_≡_};
-ghost use Prim.Native.Nat.{_+_, _≤_};
+ghost use mathlib.Core.List.{[], _∷_};
+ghost use Prim.Native.Nat.{_+_, _≤_, _<_};
 ghost use lib.ListN.{length};
+ghost use Rattle.refusal.specs.Answer.{refuses};
 ghost use Rattle.refusal.specs.Told.{toldChecked};
 ghost use Rattle.action.specs.Rules.{codeOf, dueOf};
 ghost use Rattle.filestore_base.specs.Meaning.{endOf};
@@ -175,16 +177,37 @@ fn behind_octet(
     }
 }
 
-// The value that starts at 2.
+// Refusal 1, for a byte that is not there.
+fn no_byte() -> FoundRead
+    ensures { λ r. ⌜ toldFound r ≡ refuses 1 (0 ∷ 1 ∷ []) ⌝ }
+{
+    FoundRead::Refused(Refusal::FromSliceTooSmall {
+        found: 0,
+        expected: 1,
+    })
+}
+
+// The value, where it ends before the first name: it has one byte or none.
+fn nameless(buf: &[u8], end: usize, response: bool) -> FoundRead
+    requires { ⌜ (2 ≤ end) × (end < 4) × (end ≤ length (now buf)) ⌝ }
+    ensures { λ r. ⌜ toldFound r ≡ readValue (now (buf .entry)) end response ⌝ }
+{
+    if end == 2 {
+        return no_byte();
+    }
+    match FilestoreActionCode::from_code(buf[2] / 16) {
+        ActionCodeRead::Refused(r) => FoundRead::Refused(r),
+        ActionCodeRead::Read(_) => no_byte(),
+    }
+}
+
+// The value that starts at 2. One test sees to its first byte and to the first name's length byte, so that LLVM drops the test in `Lv::read_at`.
 fn value_before(buf: &[u8], end: usize, response: bool) -> FoundRead
     requires { ⌜ (2 ≤ end) × (end ≤ length (now buf)) ⌝ }
     ensures { λ r. ⌜ toldFound r ≡ readValue (now (buf .entry)) end response ⌝ }
 {
-    if end == 2 {
-        return FoundRead::Refused(Refusal::FromSliceTooSmall {
-            found: 0,
-            expected: 1,
-        });
+    if end < 4 {
+        return nameless(buf, end, response);
     }
     let octet = buf[2];
     match FilestoreActionCode::from_code(octet / 16) {

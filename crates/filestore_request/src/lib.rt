@@ -231,7 +231,7 @@ impl FilestoreRequestTlv {
     pub fn write_to_slice(self, src: &[u8], buf: &mut [u8]) -> Written
         ensures { λ r. ⌜ Wrote 0 (writeBase (requestBase self) (now (src .entry)) (length (now (buf .entry)))) (toldWritten r) (now (buf .entry)) (now (buf .exit)) ⌝ }
     {
-        self.base().write_to_slice(src, buf)
+        self.base().write_request(src, buf)
     }
 
     // The length of the written TLV. The building refusals first.

@@ -28,18 +28,6 @@ fn through(dst: &mut [u8], at: usize, src: &[u8])
     }
 }
 
-// The same, byte by byte.
-fn plain(dst: &mut [u8], at: usize, src: &[u8])
-    requires { ⌜ at + length (now src) ≤ length (now dst) ⌝ }
-    ensures { λ _. ⌜ now (dst .exit) ≡ laid at (now (src .entry)) (now (dst .entry)) ⌝ }
-{
-    let mut i = 0;
-    while i < src.len() {
-        dst[at + i] = src[i];
-        i += 1;
-    }
-}
-
 // The same, as the first w bytes and then the last w, where src has w to 2 * w of them.
 fn ends(dst: &mut [u8], at: usize, src: &[u8], w: usize)
     requires { ⌜ (w ≤ 256) × (w ≤ length (now src)) × (length (now src) ≤ 2 * w) × (at + length (now src) ≤ length (now dst)) ⌝ }
@@ -50,13 +38,31 @@ fn ends(dst: &mut [u8], at: usize, src: &[u8], w: usize)
     through(dst, at + m, &src[m..]);
 }
 
-// The same, where src has fewer than 8 bytes.
+// The same, in pieces of 256 bytes, where src has that many or more. The last piece ends where src ends, and may lie over the one before it.
+fn pieces(dst: &mut [u8], at: usize, src: &[u8])
+    requires { ⌜ (256 ≤ length (now src)) × (at + length (now src) ≤ length (now dst)) ⌝ }
+    ensures { λ _. ⌜ now (dst .exit) ≡ laid at (now (src .entry)) (now (dst .entry)) ⌝ }
+{
+    let last = src.len() - 256;
+    let mut i: usize = 0;
+    while i < last {
+        through(dst, at + i, &src[i..i + 256]);
+        i += 256;
+    }
+    through(dst, at + last, &src[last..]);
+}
+
+// The same, where src has fewer than 16 bytes. The tests are a tree, here and in `lay`, so that no length meets more than four of them.
 fn few(dst: &mut [u8], at: usize, src: &[u8])
-    requires { ⌜ (length (now src) ≤ 7) × (at + length (now src) ≤ length (now dst)) ⌝ }
+    requires { ⌜ (length (now src) ≤ 15) × (at + length (now src) ≤ length (now dst)) ⌝ }
     ensures { λ _. ⌜ now (dst .exit) ≡ laid at (now (src .entry)) (now (dst .entry)) ⌝ }
 {
     let n = src.len();
     if 4 <= n {
+        if 8 <= n {
+            ends(dst, at, src, 8);
+            return;
+        }
         ends(dst, at, src, 4);
         return;
     }
@@ -77,23 +83,19 @@ fn lay(dst: &mut [u8], at: usize, src: &[u8])
     ensures { λ _. ⌜ now (dst .exit) ≡ laid at (now (src .entry)) (now (dst .entry)) ⌝ }
 {
     let n = src.len();
-    if 256 < n {
-        plain(dst, at, src);
+    if n < 16 {
+        few(dst, at, src);
         return;
     }
-    if 32 < n {
-        through(dst, at, src);
-        return;
-    }
-    if 16 <= n {
+    if n <= 32 {
         ends(dst, at, src, 16);
         return;
     }
-    if 8 <= n {
-        ends(dst, at, src, 8);
+    if n <= 256 {
+        through(dst, at, src);
         return;
     }
-    few(dst, at, src);
+    pieces(dst, at, src);
 }
 
 // Copies all of src over dst from the place at on. 15 where the place is past the end, then 2, counted from the place.
