@@ -15,8 +15,8 @@ use Rattle.splice.specs.Laid.{laid}
 use Rattle.splice.specs.Writing.{roomAt, Wrote}
 use Rattle.splice.proofs.Laws.{laid-cons}
 use Rattle.splice.proofs.Writing.{roomFor-in, roomFor-out, wrote, wrote-laid, gives-room}
-use Rattle.number.specs.Rules.{readBe, numberTest}
-use Rattle.number.proofs.Laws.{numberTest-passed, numberTest-in, readBe-in, length-be}
+use Rattle.number.specs.Rules.{ofBe, numberTest}
+use Rattle.number.proofs.Laws.{numberTest-passed, numberTest-in, length-be}
 use Rattle.lv.specs.Rules.{span, partOf, spanTest}
 use Rattle.lv.proofs.Laws.{spanTest-passed, length-partOf}
 use Rattle.tlv.specs.Kinds.{byteOf, isStandard}
@@ -27,7 +27,7 @@ use Rattle.entity_id.specs.Rules.{entityOf, numbered, label, widthOk, wi
 
 -- ---- widths
 
--- the one law that looks at them
+-- the two laws that look at them
 pub width-bounds : (w : ℕ) → widthOk w ≡ true → (1 ≤ w) × (w ≤ 8)
 unfolding widthOk
 width-bounds w h = go (eqb w 1) refl (eqb w 2) refl (eqb w 4) refl (eqb w 8) refl h
@@ -38,6 +38,14 @@ width-bounds w h = go (eqb w 1) refl (eqb w 2) refl (eqb w 4) refl (eqb w 8) ref
     go false p false q true r d s e = let k = eqb-true w 4 r in (omega arith, omega arith)
     go false p false q false r true s e = let k = eqb-true w 8 s in (omega arith, omega arith)
     go false p false q false r false s e = let z : _≡_ {A = ℕ} 0 1 = cc in absurd (omega arith)
+
+pub width-none : (w : ℕ) → (w ≡ 1 → ⊥) → (w ≡ 2 → ⊥) → (w ≡ 4 → ⊥) → (w ≡ 8 → ⊥) → widthOk w ≡ false
+unfolding widthOk
+width-none w a b c d = simp (ne-eqb w 1 a, ne-eqb w 2 b, ne-eqb w 4 c, ne-eqb w 8 d)
+
+-- so a width is one of the four
+pub width-some : (w : ℕ) → widthOk w ≡ true → (w ≡ 1 → ⊥) → (w ≡ 2 → ⊥) → (w ≡ 4 → ⊥) → (w ≡ 8 → ⊥) → ⊥
+width-some w h a b c d = let e = width-none w a b c d in let z : _≡_ {A = ℕ} 0 1 = cc in omega arith
 
 pub widthTest-in : (w : ℕ) → widthOk w ≡ true → widthTest w ≡ gives tt
 unfolding widthTest
@@ -130,26 +138,27 @@ module _ (bs : List ℕ) where
   readEntity-head n vs e = rw (← e)
 
   module _ (head : gives tt ≡ headTest (length bs)) where
-    pub readEntity-test : (n : ℕ) (vs : List ℕ) → refuses n vs ≡ also (typeTest (getD bs 0 0)) (widthTest (getD bs 1 0)) → refuses n vs ≡ readEntity bs
+    pub readEntity-type : (n : ℕ) (vs : List ℕ) → refuses n vs ≡ typeTest (getD bs 0 0) → refuses n vs ≡ readEntity bs
     unfolding readEntity takeEntity
-    readEntity-test n vs e = rw (← head) (ap (mapA _) (also-refused _ _ n vs e ∙ also-assoc (typeTest (getD bs 0 0)) (widthTest (getD bs 1 0)) _))
+    readEntity-type n vs e = rw (← head, ← e)
 
-    module _ (test : gives tt ≡ also (typeTest (getD bs 0 0)) (widthTest (getD bs 1 0))) where
-      pub readEntity-short : length bs < getD bs 1 0 + 2 → readEntity bs ≡ refuses 1 (length bs ∷ (getD bs 1 0 + 2) ∷ [])
+    module _ (type : gives tt ≡ typeTest (getD bs 0 0)) where
+      pub readEntity-width : (n : ℕ) (vs : List ℕ) → refuses n vs ≡ widthTest (getD bs 1 0) → refuses n vs ≡ readEntity bs
       unfolding readEntity takeEntity
-      readEntity-short h =
-          let b = also-both (typeTest (getD bs 0 0)) (widthTest (getD bs 1 0)) tt test in
-          rw (← head, ← b .0, ← b .1, valueTest-short (length bs) (getD bs 1 0) h)
+      readEntity-width n vs e = rw (← head, ← type, ← e)
 
-      pub takeEntity-whole : getD bs 1 0 + 2 ≤ length bs → takeEntity bs ≡ gives (took (numbered (take (getD bs 1 0) (drop 2 bs))) (drop (getD bs 1 0 + 2) bs))
-      unfolding takeEntity
-      takeEntity-whole h =
-          let b = also-both (typeTest (getD bs 0 0)) (widthTest (getD bs 1 0)) tt test in
-          rw (← head, ← b .0, ← b .1, valueTest-in (length bs) (getD bs 1 0) h)
+      module _ (wide : gives tt ≡ widthTest (getD bs 1 0)) where
+        pub readEntity-short : length bs < getD bs 1 0 + 2 → readEntity bs ≡ refuses 1 (length bs ∷ (getD bs 1 0 + 2) ∷ [])
+        unfolding readEntity takeEntity
+        readEntity-short h = rw (← head, ← type, ← wide, valueTest-short (length bs) (getD bs 1 0) h)
 
-      pub readEntity-whole : getD bs 1 0 + 2 ≤ length bs → readEntity bs ≡ gives (numbered (take (getD bs 1 0) (drop 2 bs)))
-      unfolding readEntity
-      readEntity-whole h = ap (mapA (λ t. t .got)) (takeEntity-whole h)
+        pub takeEntity-whole : getD bs 1 0 + 2 ≤ length bs → takeEntity bs ≡ gives (took (numbered (take (getD bs 1 0) (drop 2 bs))) (drop (getD bs 1 0 + 2) bs))
+        unfolding takeEntity
+        takeEntity-whole h = rw (← head, ← type, ← wide, valueTest-in (length bs) (getD bs 1 0) h)
+
+        pub readEntity-whole : getD bs 1 0 + 2 ≤ length bs → readEntity bs ≡ gives (numbered (take (getD bs 1 0) (drop 2 bs)))
+        unfolding readEntity
+        readEntity-whole h = ap (mapA (λ t. t .got)) (takeEntity-whole h)
 
 -- what is taken passed every test
 pub record Taken (bs : List ℕ) (t : Took Entity) : Type 0 where
@@ -215,10 +224,10 @@ held t bs e =
     let i = spanTest-passed (t .lv) bs (a .1) in
     record { fine = b .0; wide = widthTest-passed (t .lv .len) (b .1); inside = i; size = length-partOf (t .lv) bs i }
 
--- ---- what `numbered` answers: the number of as many bytes as a width
+-- ---- an entity ID made of a width and a number is that of the bytes that have them
 
-pub numbered-of : (v : List ℕ) (w : ℕ) → length v ≡ w → widthOk w ≡ true → mapA (entityOf (length v)) (readBe v) ≡ gives (numbered v)
-numbered-of v w n h = rw (readBe-in v (omega (arith, width-bounds w h)))
+pub numbered-by : (v : List ℕ) {w x : ℕ} → length v ≡ w → x ≡ ofBe v → entityOf w x ≡ numbered v
+numbered-by v n e = λ i. entityOf (sym n i) (e i)
 
 -- ---- writing
 
@@ -236,21 +245,22 @@ pub writeTest-passed : (e : Entity) (n : ℕ) → gives tt ≡ writeTest e n →
 writeTest-passed e n h = entityTest-passed e (also-both (entityTest e) (headTest n) tt (h ∙ writeTest-is e n) .0)
 
 module _ (e : Entity) (n : ℕ) where
-  pub writeEntity-refused : (k : ℕ) (vs : List ℕ) → refuses k vs ≡ writeTest e n → refuses k vs ≡ writeEntity e n
-  unfolding writeEntity
-  writeEntity-refused k vs h = also-refused (writeTest e n) _ k vs h
+  pub writeEntity-refused : (k : ℕ) (vs : List ℕ) → refuses k vs ≡ entityTest e → refuses k vs ≡ writeEntity e n
+  unfolding writeEntity writeTest
+  writeEntity-refused k vs h = rw (← h)
 
-  module _ (fine : gives tt ≡ writeTest e n) where
-    pub writeEntity-small : n < e .width + 2 → writeEntity e n ≡ refuses 2 (n ∷ (e .width + 2) ∷ [])
-    unfolding writeEntity
+  pub writeEntity-width : widthOk (e .width) ≡ false → refuses 5 (e .width ∷ []) ≡ writeEntity e n
+  writeEntity-width h = writeEntity-refused _ _ (also-refused (widthTest (e .width)) _ _ _ (sym (widthTest-other (e .width) h)) ∙ sym (entityTest-is e))
+
+  module _ (fine : gives tt ≡ entityTest e) where
+    pub writeEntity-small : n < e .width + 2 → writeEntity e n ≡ also (headTest n) (refuses 2 (n ∷ (e .width + 2) ∷ []))
+    unfolding writeEntity writeTest
     writeEntity-small h =
-        also-passed (writeTest e n) _ fine
-        ∙ roomFor-out n (entity e) (omega (arith, length-entity e))
-        ∙ ap (λ (k : ℕ). refuses 2 (n ∷ k ∷ [])) (length-entity e)
+        rw (← fine) (ap (also (headTest n)) (roomFor-out n (entity e) (omega (arith, length-entity e)) ∙ ap (λ (k : ℕ). refuses 2 (n ∷ k ∷ [])) (length-entity e)))
 
     pub writeEntity-room : e .width + 2 ≤ n → writeEntity e n ≡ gives (entity e)
-    unfolding writeEntity
-    writeEntity-room h = also-passed (writeTest e n) _ fine ∙ roomFor-in n (entity e) (omega (arith, length-entity e))
+    unfolding writeEntity writeTest
+    writeEntity-room h = rw (← fine, headTest-in n (omega arith)) (roomFor-in n (entity e) (omega (arith, length-entity e)))
 
 -- what is known where something is written
 pub record Writable (e : Entity) (n : ℕ) : Type 0 where
@@ -280,6 +290,12 @@ module _ (e : Entity) (n : ℕ) where
   told-writable h =
       let m = mapped-by (λ _. tt) (writeEntity e n) tt (sym h) in
       writable e n (m .0) (m .1)
+
+-- what was written could be
+pub wrote-writable : (e : Entity) (old : List ℕ) {new : List ℕ} {k : ℕ} → Wrote 0 (writeEntity e (length old)) (gives k) old new → Writable e (length old)
+wrote-writable e old {k = k} w =
+    let m = mapped-by length (writeEntity e (length old)) k (sym (w .answer)) in
+    writable e (length old) (m .0) (m .1)
 
 -- a number that fits is laid down by `number::write`
 pub number-laid : (e : Entity) (old new : List ℕ) {told : Answer ℕ} → EntityOk e → e .width + 2 ≤ length old

@@ -12,14 +12,16 @@ use tlv::TlvRead;
 use tlv::TlvType;
 use tlv::TlvTypeField;
 ghost use mathlib.Core.Path.{_≡_};
-ghost use lib.ListN.{length};
+ghost use Prim.Native.Nat.{_+_, _≤_};
+ghost use mathlib.Core.Bool.{true};
+ghost use lib.ListN.{length, take, drop};
 ghost use Rattle.refusal.specs.Answer.{mapA};
 ghost use Rattle.refusal.specs.Told.{toldWritten, toldChecked, toldLength};
 ghost use Rattle.splice.specs.Writing.{Wrote};
-ghost use Rattle.number.specs.Rules.{readBe};
+ghost use Rattle.number.specs.Rules.{ofBe};
 ghost use Rattle.tlv.specs.Kinds.{typeOf, isStandard};
 ghost use Rattle.tlv.specs.Told.{toldTlv};
-ghost use Rattle.entity_id.specs.Rules.{entityOf, idOf, meaning, label, widthTest, entityTest, newEntity, lenEntity, headTest, typeTest, readEntity, labelTest, ofTlv, writeEntity, roomTest, MadeTlv, sameEntity};
+ghost use Rattle.entity_id.specs.Rules.{entityOf, idOf, meaning, label, widthOk, widthTest, entityTest, newEntity, lenEntity, headTest, typeTest, readEntity, labelTest, ofTlv, writeEntity, roomTest, MadeTlv, sameEntity};
 ghost use Rattle.entity_id.specs.Told.{toldEntity};
 
 // A number and how many bytes it is written in.
@@ -96,47 +98,106 @@ fn label_test(field: TlvTypeField) -> Checked
     }
 }
 
-// Whether an entity ID can be written to n bytes: 5, 10, then 2.
+// Whether an entity ID can be written to n bytes: 5, 10, then 2. Where there is room, one test says so.
 fn room_test(id: UnsignedByteField, n: usize) -> Checked
     ensures { λ r. ⌜ toldChecked r ≡ roomTest (idOf id) n ⌝ }
 {
-    let test = entity_test(id).then(head_test(n));
+    let test = entity_test(id);
     if let Checked::Refused(r) = test {
         return Checked::Refused(r);
     }
     let expected = id.width + 2;
     if n < expected {
-        return Checked::Refused(Refusal::ToSliceTooSmall { found: n, expected });
+        let small = Checked::Refused(Refusal::ToSliceTooSmall { found: n, expected });
+        return head_test(n).then(small);
     }
     Checked::Fine
 }
 
-// The entity ID whose bytes are v. 5 where they are more than 8.
-fn numbered(v: &[u8]) -> EntityIdRead
-    ensures { λ r. ⌜ toldEntity r ≡ mapA (entityOf (length (now (v .entry)))) (readBe (now (v .entry))) ⌝ }
+// The number of the first w bytes of v. Where its caller names w, LLVM makes it one load. (A length inside a slice it does not see where it decides
+// what to copy into the caller.)
+fn first(v: &[u8], w: usize) -> u64
+    requires { ⌜ (w ≤ length (now v)) × (w ≤ 8) ⌝ }
+    ensures { λ r. ⌜ r ≡ ofBe (take w (now (v .entry))) ⌝ }
 {
-    let width = v.len();
-    match number::read(v) {
-        Number::Is(value) => EntityIdRead::Read(EntityIdTlv {
-            entity_id: UnsignedByteField { width, value },
-        }),
-        Number::Refused(r) => EntityIdRead::Refused(r),
+    match number::read(&v[..w]) {
+        Number::Is(value) => value,
+        Number::Refused(_) => 0,
     }
 }
 
-// Writes an entity ID to the front of buf. 5, 10, then 2. Its caller names each width, so that LLVM makes a copy of it for each.
-fn written(width: usize, value: u64, buf: &mut [u8]) -> Written
-    ensures { λ r. ⌜ Wrote 0 (writeEntity (entityOf width value) (length (now (buf .entry)))) (toldWritten r) (now (buf .entry)) (now (buf .exit)) ⌝ }
+// The number of the bytes v, where their count is a width; else 0. It names each width, so that LLVM makes a copy of `first` for each.
+fn value_of(v: &[u8]) -> u64
+    ensures { λ r. ⌜ (widthOk (length (now (v .entry))) ≡ true → r ≡ ofBe (now (v .entry))) ⌝ }
+{
+    let width = v.len();
+    if 4 <= width {
+        if width == 8 {
+            return first(v, 8);
+        }
+        if width == 4 {
+            return first(v, 4);
+        }
+    } else {
+        if width == 1 {
+            return first(v, 1);
+        }
+        if width == 2 {
+            return first(v, 2);
+        }
+    }
+    0
+}
+
+// The same of the bytes of buf behind the type and length bytes; 0 where they are not all there.
+fn value_at(width: usize, buf: &[u8]) -> u64
+    requires { ⌜ width ≤ 255 ⌝ }
+    ensures { λ r. ⌜ (widthOk width ≡ true → width + 2 ≤ length (now (buf .entry)) → r ≡ ofBe (take width (drop 2 (now (buf .entry))))) ⌝ }
+{
+    let end = width + 2;
+    if buf.len() < end {
+        return 0;
+    }
+    value_of(&buf[2..end])
+}
+
+// Writes an entity ID to the front of buf, or says what refuses it: 5, 10, then 2. Its caller names each width, so that LLVM makes a copy of it for
+// each.
+fn written(width: usize, value: u64, buf: &mut [u8]) -> Checked
+    ensures { λ r. ⌜ Wrote 0 (writeEntity (entityOf width value) (length (now (buf .entry)))) (mapA (λ _. width + 2) (toldChecked r)) (now (buf .entry)) (now (buf .exit)) ⌝ }
 {
     let id = UnsignedByteField { width, value };
     let test = room_test(id, buf.len());
     if let Checked::Refused(r) = test {
-        return Written::Refused(r);
+        return Checked::Refused(r);
     }
     buf[0] = ENTITY_ID;
     buf[1] = width as u8;
     number::write(id.value, width, buf, 2);
-    Written::Bytes(width + 2)
+    Checked::Fine
+}
+
+// The same, with each width named. It leaves to its caller to say how many bytes are written: said here, LLVM would store it for each width and
+// load it again.
+fn written_by_width(width: usize, value: u64, buf: &mut [u8]) -> Checked
+    ensures { λ r. ⌜ Wrote 0 (writeEntity (entityOf width value) (length (now (buf .entry)))) (mapA (λ _. width + 2) (toldChecked r)) (now (buf .entry)) (now (buf .exit)) ⌝ }
+{
+    if 4 <= width {
+        if width == 8 {
+            return written(8, value, buf);
+        }
+        if width == 4 {
+            return written(4, value, buf);
+        }
+    } else {
+        if width == 1 {
+            return written(1, value, buf);
+        }
+        if width == 2 {
+            return written(2, value, buf);
+        }
+    }
+    Checked::Refused(Refusal::InvalidValueLength(width))
 }
 
 impl EntityIdTlv {
@@ -176,7 +237,8 @@ impl EntityIdTlv {
         Length::Len(id.width + 2)
     }
 
-    // The entity ID at the front of buf. What stands behind it is ignored. 2, 3, 5, then 1.
+    // The entity ID at the front of buf. What stands behind it is ignored. 2, 3, 5, then 1. The number is read before the width is tested, so that
+    // LLVM makes the two choices by width one.
     pub fn from_bytes(buf: &[u8]) -> EntityIdRead
         ensures { λ r. ⌜ toldEntity r ≡ readEntity (now (buf .entry)) ⌝ }
     {
@@ -185,16 +247,23 @@ impl EntityIdTlv {
         if let Checked::Refused(r) = head {
             return EntityIdRead::Refused(r);
         }
-        let width = buf[1] as usize;
-        let test = type_test(buf[0]).then(width_test(width));
+        let test = type_test(buf[0]);
         if let Checked::Refused(r) = test {
+            return EntityIdRead::Refused(r);
+        }
+        let width = buf[1] as usize;
+        let value = value_at(width, buf);
+        let allowed = width_test(width);
+        if let Checked::Refused(r) = allowed {
             return EntityIdRead::Refused(r);
         }
         let expected = width + 2;
         if n < expected {
             return EntityIdRead::Refused(Refusal::FromSliceTooSmall { found: n, expected });
         }
-        numbered(&buf[2..expected])
+        EntityIdRead::Read(EntityIdTlv {
+            entity_id: UnsignedByteField { width, value },
+        })
     }
 
     // Writes the number alone to buf, from byte 2 on, and gives the TLV whose value it is. 5, 10, then 2.
@@ -216,23 +285,11 @@ impl EntityIdTlv {
     {
         let id = self.entity_id;
         let width = id.width;
-        let value = id.value;
-        if 4 <= width {
-            if width == 4 {
-                return written(4, value, buf);
-            }
-            if width == 8 {
-                return written(8, value, buf);
-            }
-        } else {
-            if width == 1 {
-                return written(1, value, buf);
-            }
-            if width == 2 {
-                return written(2, value, buf);
-            }
+        let test = written_by_width(width, id.value, buf);
+        if let Checked::Refused(r) = test {
+            return Written::Refused(r);
         }
-        written(width, value, buf)
+        Written::Bytes(width + 2)
     }
 
     // The length of the written TLV. 5, then 10.
@@ -272,7 +329,13 @@ impl EntityIdTlv {
         if let Checked::Refused(r) = test {
             return EntityIdRead::Refused(r);
         }
-        numbered(l.value(buf))
+        let value = value_of(l.value(buf));
+        EntityIdRead::Read(EntityIdTlv {
+            entity_id: UnsignedByteField {
+                width: l.len,
+                value,
+            },
+        })
     }
 
     // Whether two entity IDs have the same width and the same number.

@@ -6,7 +6,7 @@ use lib.Pow.{pow-pos, pow-add}
 use native.Mathlib.Nat.{div-eq-of-lt, div-lt-iff-lt-mul, zero-add, add-zero, one-mul, pow-suc, pow-le-pow-right, add-suc}
 use native.Mathlib.Numerals.{add-one}
 use mathlib.Core.List.{List, [], _∷_, _++_, append-assoc, append-nil}
-use lib.ListN.{length, take, drop, getD, set, length-set, length-append, drop-of-length-le}
+use lib.ListN.{length, take, drop, getD, set, replicate, length-replicate, length-set, length-append, drop-of-length-le}
 use lib.Seq.{drop-cons, drop-set-lt, drop-length, drop-append-le, take-all, getD-set-same}
 use mathlib.Core.Bool.{Bool, true, false}
 use lib.Dec.{leb, ltb}
@@ -15,6 +15,8 @@ use Rattle.bluebook.specs.Layouts.{Octets, beBytes}
 use Rattle.refusal.specs.Answer.{Answer, gives, refuses, pick, Test}
 use Rattle.refusal.proofs.Laws.{gives-or-refuses}
 use Rattle.refusal.proofs.Once.{refusalOf-refused, untold, one-told}
+use Rattle.splice.specs.Laid.{laid}
+use Rattle.splice.proofs.Laws.{laid-is}
 use Rattle.number.specs.Told.{toldNumber}
 use Rattle.number.specs.declared.Number.{Number}
 use Rattle.number.specs.declared.Number.the-variants.{Is, Refused}
@@ -45,6 +47,20 @@ beBytes-next d (suc j) x h k =
     rw e (rw (drop-cons (set d j (x % 256)) j 0 (rw (length-set d j (x % 256)) k), getD-set-same d j (x % 256) 0 k, drop-set-lt (suc j) d j (x % 256) (omega arith), append-assoc))
 
 -- ---- what they mean
+
+-- zeros in front do not count
+zeros-before : (m n : ℕ) (v : List ℕ) → ofBe (take m (replicate n 0) ++ v) ≡ ofBe v
+unfolding beFrom
+zeros-before zero n v = refl
+zeros-before (suc m) zero v = refl
+zeros-before (suc m) (suc n) v = zeros-before m n v
+
+-- bytes laid over the last of zeros have their own number
+pub ofBe-behind : (m n : ℕ) (v : List ℕ) → m + length v ≡ n → ofBe (laid m v (replicate n 0)) ≡ ofBe v
+ofBe-behind m n v e =
+    let z : List ℕ = replicate n 0 in
+    let d : drop (m + length v) z ≡ [] = drop-of-length-le z {i = m + length v} (omega (arith, length-replicate {A = ℕ} n 0)) in
+    ap ofBe (laid-is m v z ∙ ap (λ (r : List ℕ). take m z ++ v ++ r) d ∙ append-nil (take m z ++ v)) ∙ zeros-before m n v
 
 beFrom-snoc : (xs : List ℕ) (acc b : ℕ) → beFrom acc (xs ++ (b ∷ [])) ≡ beFrom acc xs * 256 + b
 unfolding beFrom

@@ -1,4 +1,4 @@
-// Unsigned big-endian numbers of up to 8 bytes. Where a loop is called on a part of constant length, LLVM makes it one load or one store.
+// Unsigned big-endian numbers of up to 8 bytes. They are read and written through an array of 8: LLVM makes a loop over it one load or one store.
 use refusal::Checked;
 use refusal::Refusal;
 use refusal::Written;
@@ -32,55 +32,16 @@ fn digits(v: &[u8]) -> u64
     x
 }
 
-// The number of the w bytes of v, taken as a part of length w: where w is a constant, so is the loop's count.
-fn first(v: &[u8], w: usize) -> u64
-    requires { ⌜ (length (now v) ≡ w) × (w ≤ 8) ⌝ }
-    ensures { λ r. ⌜ r ≡ ofBe (now (v .entry)) ⌝ }
-{
-    digits(&v[..w])
-}
-
-// The number of 8 bytes, read from a copy: LLVM makes that one load, which it does not do with 8 loads from v.
-fn eight(v: &[u8]) -> u64
-    requires { ⌜ length (now v) ≡ 8 ⌝ }
-    ensures { λ r. ⌜ r ≡ ofBe (now (v .entry)) ⌝ }
-{
-    let mut b = [0u8; 8];
-    splice::put(&mut b, 0, &v[..8]);
-    digits(&b)
-}
-
-// The number of at most 8 bytes: the way that is fastest for its length.
+// The number of at most 8 bytes, read from a copy with zeros in front. Where their count is a constant, LLVM makes that one load, which it does
+// not do with 8 loads from v.
 fn of(v: &[u8]) -> u64
     requires { ⌜ length (now v) ≤ 8 ⌝ }
     ensures { λ r. ⌜ r ≡ ofBe (now (v .entry)) ⌝ }
 {
-    let n = v.len();
-    if 4 <= n {
-        if n == 8 {
-            return eight(v);
-        }
-        if n == 4 {
-            return first(v, 4);
-        }
-        if n <= 6 {
-            if n == 6 {
-                return first(v, 6);
-            }
-            return first(v, 5);
-        }
-        return first(v, 7);
-    }
-    if 2 <= n {
-        if n == 2 {
-            return first(v, 2);
-        }
-        return first(v, 3);
-    }
-    if 1 <= n {
-        return first(v, 1);
-    }
-    digits(v)
+    let mut b = [0u8; 8];
+    let m = 8 - v.len();
+    splice::put(&mut b, m, v);
+    digits(&b)
 }
 
 // The number of the bytes v. 5 where they are more than 8.

@@ -1,11 +1,11 @@
 -- `room_test` meets its contract: a test refuses, there is no room, or there is. Assumes nothing.
-use mathlib.Core.Path.{_≡_, sym, ap, _∙_}
+use mathlib.Core.Path.{_≡_, refl, sym, ap, _∙_}
 use native.Mathlib.Omega.{arith}
 use Rattle.refusal.specs.Answer.{gives, mapA}
 use Rattle.refusal.specs.Told.{toldChecked}
-use Rattle.refusal.proofs.Laws.{also-of}
-use Rattle.entity_id.specs.Rules.{idOf, writeTest}
-use Rattle.entity_id.proofs.Laws.{width-bounds, writeTest-is, writeTest-passed, writeEntity-refused, writeEntity-small, writeEntity-room}
+use Rattle.refusal.proofs.Laws.{also-of, also-mapped}
+use Rattle.entity_id.specs.Rules.{idOf, entityTest, headTest}
+use Rattle.entity_id.proofs.Laws.{width-bounds, entityTest-passed, writeEntity-refused, writeEntity-small, writeEntity-room}
 use borrow.Author.Needs.{needs}
 use Rattle.entity_id.proofs.room_test.Statement.{statement}
 use Rattle.entity_id.proofs.room_test.Tie as tie
@@ -13,33 +13,34 @@ use Rattle.entity_id.proofs.room_test.Tie as tie
 entity-test-requires : tie.Need-entity-test-requires
 entity-test-requires c κs = search needs
 
+enum-known-test : tie.Need-enum-known-test
+enum-known-test c = search needs
+
+returns : tie.Need-returns
+returns c = ap (mapA _) (writeEntity-refused _ _ _ _ (sym (ap toldChecked (c .before .test .given .1)) ∙ c .before .before .before .entity-test .ensures))
+
+enum-told : tie.Need-enum-told
+enum-told c = search needs
+
+-- behind the test it can be built
+passed : (c : tie.After-enum-told) → gives tt ≡ entityTest (idOf (c .before .before .before .args .id))
+passed c = sym (ap toldChecked (c .enum-told .given .1)) ∙ c .before .before .entity-test .ensures
+
+add-expected : tie.Need-add-expected
+add-expected c = omega (arith, width-bounds _ (entityTest-passed _ (passed (c .before)) .wide))
+
 head-test-requires : tie.Need-head-test-requires
 head-test-requires c κs = search needs
 
 then-requires : tie.Need-then-requires
 then-requires c κs = search needs
 
-enum-known-test : tie.Need-enum-known-test
-enum-known-test c = search needs
-
--- what the tests told
-told : (c : tie.After-then) → (let a = c .before .before .before .args in toldChecked (c .then .result) ≡ writeTest (idOf (a .id)) (a .n))
-told c = also-of (c .then .ensures) (c .before .before .entity-test .ensures) (c .before .head-test .ensures) ∙ sym (writeTest-is _ _)
-
-returns : tie.Need-returns
-returns c = ap (mapA _) (writeEntity-refused _ _ _ _ (sym (ap toldChecked (c .before .test .given .1)) ∙ told (c .before .before .before)))
-
-enum-told : tie.Need-enum-told
-enum-told c = search needs
-
-passed : (c : tie.After-enum-told) → (let a = c .before .before .before .before .before .args in gives tt ≡ writeTest (idOf (a .id)) (a .n))
-passed c = sym (ap toldChecked (c .enum-told .given .1)) ∙ told (c .before .before)
-
-add-expected : tie.Need-add-expected
-add-expected c = omega (arith, width-bounds _ (writeTest-passed _ _ (passed (c .before)) .wide))
-
 returns-2 : tie.Need-returns-2
-returns-2 c = sym (ap (mapA _) (writeEntity-small _ _ (passed (c .before .before)) (c .if1 .taken)))
+returns-2 c =
+    let d = c .before .before in
+    also-of (c .then .ensures) (c .before .head-test .ensures) refl
+    ∙ also-mapped (headTest _) (λ _. tt) _
+    ∙ sym (ap (mapA (λ _. tt)) (writeEntity-small _ _ (passed (d .before .before)) (d .if1 .taken)))
 
 returns-3 : tie.Need-returns-3
 returns-3 c = sym (ap (mapA _) (writeEntity-room _ _ (passed (c .before .before)) (c .if1 .left)))
@@ -49,11 +50,11 @@ room-test-spec =
     tie.close
     (tie.spec
     entity-test-requires
-    head-test-requires
-    then-requires
     enum-known-test
     returns
     enum-told
     add-expected
+    head-test-requires
+    then-requires
     returns-2
     returns-3)

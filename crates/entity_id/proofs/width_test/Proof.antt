@@ -4,19 +4,13 @@ use Prim.Native.Nat.{ℕ, _≤_, _<_}
 use native.Mathlib.Omega.{arith}
 use mathlib.Core.Logic.{_⊎_, inl, inr}
 use mathlib.Core.Bool.{Bool, true, false}
-use mathlib.Core.List.{[], _∷_}
 use lib.Dec.{eqb}
-use borrow.Author.Tests.{ne-eqb, eqb-true, eqb-false}
-use Rattle.refusal.specs.Answer.{gives, refuses}
+use borrow.Author.Tests.{eqb-true, eqb-false}
+use Rattle.refusal.specs.Answer.{gives}
 use Rattle.entity_id.specs.Rules.{widthOk, widthTest}
-use Rattle.entity_id.proofs.Laws.{widthTest-in, widthTest-other}
+use Rattle.entity_id.proofs.Laws.{width-none, widthTest-in, widthTest-other}
 use Rattle.entity_id.proofs.width_test.Statement.{statement}
 use Rattle.entity_id.proofs.width_test.Tie as tie
-
--- none of the four
-none : (w : ℕ) → (w ≡ 1 → ⊥) → (w ≡ 2 → ⊥) → (w ≡ 4 → ⊥) → (w ≡ 8 → ⊥) → widthTest w ≡ refuses 5 (w ∷ [])
-unfolding widthOk
-none w a b c d = widthTest-other w (simp (ne-eqb w 1 a, ne-eqb w 2 b, ne-eqb w 4 c, ne-eqb w 8 d))
 
 -- 1 or 2
 small : (w : ℕ) → 1 ≤ w → w < 3 → widthTest w ≡ gives tt
@@ -34,10 +28,10 @@ large w (inl e) = widthTest-in w (ap widthOk e)
 large w (inr e) = widthTest-in w (ap widthOk e)
 
 returns : tie.Need-returns
-returns c = let r = c .before .match .rest .1 in sym (none _ (omega arith) (omega arith) (λ e. r (inl e)) (λ e. r (inr e)))
+returns c = let r = c .before .match .rest .1 in sym (widthTest-other _ (width-none _ (omega arith) (omega arith) (λ e. r (inl e)) (λ e. r (inr e))))
 
 returns-2 : tie.Need-returns-2
-returns-2 c = let r = c .before .before .match .rest .1 in sym (none _ (omega arith) (omega arith) (λ e. r (inl e)) (λ e. r (inr e)))
+returns-2 c = let r = c .before .before .match .rest .1 in sym (widthTest-other _ (width-none _ (omega arith) (omega arith) (λ e. r (inl e)) (λ e. r (inr e))))
 
 returns-3 : tie.Need-returns-3
 returns-3 c = sym (large _ (c .match .keys1))

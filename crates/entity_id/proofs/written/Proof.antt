@@ -40,9 +40,6 @@ slice-write-buf-2 c = simp length-set (omega (arith, fine c .room))
 write-requires : tie.Need-write-requires
 write-requires c κs = search needs
 
-add-t7 : tie.Need-add-t7
-add-t7 c = omega (arith, fine (c .before .before .before .before) .short)
-
 same-length : tie.Need-same-length
 same-length c = c .before .before .write .kept .1 .1 .0 ∙ simp length-set
 
@@ -67,6 +64,5 @@ written-spec =
     cast-buf
     slice-write-buf-2
     write-requires
-    add-t7
     same-length
     returns-2)

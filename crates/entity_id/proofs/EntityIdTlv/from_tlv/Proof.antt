@@ -1,15 +1,11 @@
 -- `EntityIdTlv::from_tlv` meets its contract: the three tests, and then the number of the value. Assumes nothing.
 use mathlib.Core.Path.{_≡_, sym, ap, _∙_}
-use Prim.Native.Nat.{ℕ}
-use mathlib.Core.List.{List}
-use lib.ListN.{length}
-use Rattle.refusal.specs.Answer.{mapA}
+use Rattle.refusal.specs.Answer.{gives}
 use Rattle.refusal.specs.Told.{toldChecked}
 use Rattle.refusal.proofs.Laws.{also-of}
-use Rattle.number.specs.Rules.{readBe}
 use Rattle.lv.specs.Rules.{partOf}
-use Rattle.entity_id.specs.Rules.{entityOf}
-use Rattle.entity_id.proofs.Laws.{tlvTest, held, numbered-of, ofTlv-refused, ofTlv-passed}
+use Rattle.entity_id.specs.Rules.{widthOk}
+use Rattle.entity_id.proofs.Laws.{tlvTest, held, numbered-by, ofTlv-refused, ofTlv-passed}
 use borrow.Author.Needs.{needs}
 use Rattle.entity_id.proofs.EntityIdTlv.from_tlv.Statement.{statement}
 use Rattle.entity_id.proofs.EntityIdTlv.from_tlv.Tie as tie
@@ -47,8 +43,8 @@ enum-told c = search needs
 value-requires : tie.Need-value-requires
 value-requires c κs = search needs
 
-numbered-requires : tie.Need-numbered-requires
-numbered-requires c κs = search needs
+value-of-requires : tie.Need-value-of-requires
+value-of-requires c κs = search needs
 
 returns-2 : tie.Need-returns-2
 returns-2 c =
@@ -57,9 +53,8 @@ returns-2 c =
     let a = e .before .before .before .before .before .before .before .args in
     let fine = sym (ap toldChecked (d .enum-told .given .1)) ∙ told e in
     let h = held (a .tlv) (a .buf .now) fine in
-    c .numbered .ensures
-    ∙ ap (λ (v : List ℕ). mapA (entityOf (length v)) (readBe v)) (c .before .value .ensures)
-    ∙ numbered-of (partOf (a .tlv .lv) (a .buf .now)) (a .tlv .lv .len) (h .size) (h .wide)
+    let v = partOf (a .tlv .lv) (a .buf .now) in
+    ap gives (numbered-by v (h .size) ((rw (c .before .value .ensures) at (c .value-of .ensures)) (ap widthOk (h .size) ∙ h .wide)))
     ∙ sym (ofTlv-passed (a .tlv) (a .buf .now) fine)
 
 pub from-tlv-spec : {M : Type 1} → statement M
@@ -75,5 +70,5 @@ from-tlv-spec =
     returns
     enum-told
     value-requires
-    numbered-requires
+    value-of-requires
     returns-2)
