@@ -16,8 +16,9 @@
 #   X86_COUNT    qemu-x86_64 -plugin, with a plugin that writes a line `insns N` to standard error; Debian has none
 #   X86_OBJDUMP  binutils-x86-64-linux-gnu: x86_64-linux-gnu-objdump
 #
-# libcabi.a is proved and built first, where that in target/ was not built from these very sources. CABI_LIB is an archive libcabi.a to use in the place
-# of the one that `rt staticlib cabi` proves and writes.
+# libcabi.a and the program dump are proved and built first, where those in target/ were not built from these very sources. To try others:
+#   CABI_LIB      an archive libcabi.a to use in the place of the one that `rt staticlib cabi` proves and writes
+#   DUMP_PROGRAM  a program dump to use in the place of target/bin/dump. With CABI_LIB alone nothing is proved, and the listings are left out
 # Status 77 where one of these commands is missing, and something is left out for it; 2 where something else is in the way.
 
 . "$top/tools/sources.sh"
@@ -74,6 +75,19 @@ archive() {
     note=$top/target/run-proved/libcabi.a
     mkdir -p "$top/target/run-proved"
     (prove_archive) 9<"$top" || exit 2
+}
+
+# Sets dump, the program that lists, and finds the kit, which it is run by. ./dump proves it where it was not built from these very sources; but where
+# CABI_LIB is given alone nothing is to be proved, and dump is empty.
+dump_program() {
+    dump=${DUMP_PROGRAM-}
+    [ -n "$dump" ] || [ -z "${CABI_LIB-}" ] || return 0
+    find_kit
+    if [ -z "$dump" ]; then
+        "$top/dump" </dev/null >/dev/null || stop "the program dump is not proved"
+        dump=$top/target/bin/dump
+    fi
+    [ -r "$dump" ] || stop "no such file: $dump"
 }
 
 # cargo for x86-64, over the archive. What it builds goes to target/cargo/x86_64-unknown-linux-gnu.
