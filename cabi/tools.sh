@@ -6,11 +6,22 @@
 #   X86_RUN      runs a program                                  else nothing is needed
 #   X86_COUNT    runs a program and counts its instructions      else valgrind --tool=callgrind
 #   X86_OBJDUMP  disassembles                                    else objdump
-# What stands behind `else` serves on an x86-64 machine. On another one they have to be given: a cargo and a C compiler that build for x86-64, with a
-# standard library of that machine itself for derive macros and build scripts, and commands that run a program for x86-64 and count its instructions. An
-# objdump for x86-64 is in Debian's binutils-x86-64-linux-gnu.
-# CABI_LIB is an archive libcabi.a to use in the place of the one that `rt staticlib cabi` proves and writes.
+# What stands behind `else` serves on an x86-64 machine. Debian's packages for it: cargo-web (Debian 12) or cargo (13), gcc, valgrind, binutils.
+# On another machine, an Arm one say, all of them have to be given. Debian's packages for that, once dpkg knows the architecture amd64:
+#   X86_CARGO    cargo-web and libstd-rust-web-dev:amd64 (Debian 12), or cargo and libstd-rust-dev:amd64 (13), which need x86_64-linux-gnu-gcc as the
+#                linker (CARGO_TARGET_X86_64_UNKNOWN_LINUX_GNU_LINKER). Derive macros and build scripts need a standard library of the machine itself,
+#                which comes with that cargo
+#   X86_CC       gcc-x86-64-linux-gnu and libc6-dev-amd64-cross: x86_64-linux-gnu-gcc
+#   X86_RUN      qemu-user and libc6:amd64: qemu-x86_64
+#   X86_COUNT    qemu-x86_64 -plugin, with a plugin that writes a line `insns N` to standard error; Debian has none
+#   X86_OBJDUMP  binutils-x86-64-linux-gnu: x86_64-linux-gnu-objdump
+#
+# libcabi.a and the program dump are proved and built first, where those in target/ were not built from these very sources. To try others:
+#   CABI_LIB      an archive libcabi.a to use in the place of the one that `rt staticlib cabi` proves and writes
+#   DUMP_PROGRAM  a program dump to use in the place of target/bin/dump. With CABI_LIB alone nothing is proved, and the listings are left out
 # Status 77 where one of these commands is missing, and something is left out for it; 2 where something else is in the way.
+
+. "$top/tools/sources.sh"
 
 stop() {
     echo "$me: $1" >&2
@@ -31,7 +42,7 @@ needs() { # VARIABLE..
             case $variable in
                 X86_CARGO) command=cargo ;;
                 X86_CC) command=cc ;;
-                X86_RUN) command=env ;;
+                X86_RUN) command='env' ;;
                 X86_COUNT) command='valgrind --tool=callgrind --callgrind-out-file=/dev/null' ;;
                 X86_OBJDUMP) command=objdump ;;
             esac
@@ -42,7 +53,16 @@ needs() { # VARIABLE..
     done
 }
 
-# Sets lib, the folder that libcabi.a is in.
+# Proves libcabi.a, and notes from what.
+prove_archive() {
+    wait_turn "$me"
+    ! noted "$lib/libcabi.a" "$note" || return 0
+    from=$(sources)
+    (cd "$top" && rt staticlib cabi) >&2 || stop "libcabi.a is not proved"
+    write_note "$lib/libcabi.a" "$note" "$from"
+}
+
+# Sets lib, the folder that libcabi.a is in. It is proved where the one that is there was not built from these very sources.
 archive() {
     if [ -n "${CABI_LIB-}" ]; then
         case $CABI_LIB in */libcabi.a) ;; *) stop "CABI_LIB is not the path of a libcabi.a: $CABI_LIB" ;; esac
@@ -50,9 +70,24 @@ archive() {
         lib=$(CDPATH='' cd "$(dirname "$CABI_LIB")" && pwd)
         return
     fi
-    command -v rt >/dev/null || stop "rt, the command of the Rattle kit, is not on the PATH"
-    (cd "$top" && rt staticlib cabi) >&2 || stop "libcabi.a is not proved"
+    find_kit
     lib=$top/target/staticlib
+    note=$top/target/run-proved/libcabi.a
+    mkdir -p "$top/target/run-proved"
+    (prove_archive) 9<"$top" || exit 2
+}
+
+# Sets dump, the program that lists, and finds the kit, which it is run by. ./dump proves it where it was not built from these very sources; but where
+# CABI_LIB is given alone nothing is to be proved, and dump is empty.
+dump_program() {
+    dump=${DUMP_PROGRAM-}
+    [ -n "$dump" ] || [ -z "${CABI_LIB-}" ] || return 0
+    find_kit
+    if [ -z "$dump" ]; then
+        "$top/dump" </dev/null >/dev/null || stop "the program dump is not proved"
+        dump=$top/target/bin/dump
+    fi
+    [ -r "$dump" ] || stop "no such file: $dump"
 }
 
 # cargo for x86-64, over the archive. What it builds goes to target/cargo/x86_64-unknown-linux-gnu.

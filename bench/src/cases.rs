@@ -311,9 +311,11 @@ fn response_write(name: &'static str, value: Value) -> Case {
     )
 }
 
-pub fn cases() -> Vec<Case> {
+/// The cases of the table.
+pub fn calls() -> Vec<Case> {
     let create = Value { action: FilestoreActionCode::CreateFile, first: 16, second: None, message: 16 };
     let rename = Value { action: FilestoreActionCode::RenameFile, first: 16, second: Some(20), message: 16 };
+    let (small, large) = (walks::filled(0), walks::filled(249));
     vec![
         lv_read("LV read, 16 bytes", 16),
         lv_write("LV write, 16 bytes", 16),
@@ -337,9 +339,9 @@ pub fn cases() -> Vec<Case> {
         response_read("response read, rename", rename),
         response_write("response write, create", create),
         response_write("response write, rename", rename),
-        walks::walk("walk, small records", 0),
-        walks::walk("walk, large records", 249),
-        walks::steps("steps, small records", 0),
-        walks::steps("steps, large records", 249),
+        walks::walk("walk, small records", small),
+        walks::walk("walk, large records", large),
+        walks::steps("steps, small records", small),
+        walks::steps("steps, large records", large),
     ]
 }

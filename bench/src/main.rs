@@ -1,20 +1,23 @@
-//! The same inputs through the static library and through the Rust, in one program. bench/run calls it and makes the table.
+//! The same inputs through the static library and through the Rust, in one program. bench/run builds it twice, calls it and makes the tables.
 //!
 //!   bench check              compares the two sides' answers, and the bytes that they write; status 1 where they differ
-//!   bench cases              a line for each case: how many calls a count takes, how many records a call walks, the goal, the name
-//!   bench run N SIDE ROUNDS  makes the calls of case N, counted from 1, on the side ours or rust
-//!   bench times              a line for each case: nanoseconds, ours and the Rust's, for a call or a record
+//!   bench calls              a line for each case: its number, how many calls a count takes, how many records a call walks, the goal, the name
+//!   bench growth             the same for the walks of more and more records
+//!   bench run N SIDE ROUNDS  makes the calls of case N on the side ours or rust
+//!   bench times              a line for each of the calls: its number, and nanoseconds, ours and the Rust's, for a call or a record
+//!   bench journal WHICH      writes a journal: the wild one, or one of so many records with no value
 mod cases;
+mod journals;
 mod rust;
 mod walks;
 
-use cases::{Case, Side, cases};
-use std::{env, process::exit, time::Instant};
+use cases::Case;
+use std::io::Write;
+use std::{arch::global_asm, env, io, process::exit, time::Instant};
 
-/// How many calls of a case make some 100,000 instructions or more.
-fn rounds(case: &Case) -> usize {
-    if case.per == 1 { 2000 } else { 2 }
-}
+// Stands first in the program's code, and moves all that follows by PLACE bytes. Where a function lies within 64 bytes changes its time by a half and
+// more, so that bench/run builds the program at four places and takes each side where it is quickest.
+global_asm!(".pushsection .text.place, \"axR\", @progbits", concat!(".skip ", env!("PLACE"), ", 0x90"), ".popsection");
 
 fn check(cases: &[Case]) {
     let mut differ = false;
@@ -30,48 +33,57 @@ fn check(cases: &[Case]) {
     }
 }
 
-/// The nanoseconds of one call or record: the median of several runs of about a millisecond each.
-fn times(case: &Case) -> [f64; 2] {
-    let calls = 100_000 / case.per.min(10_000);
-    let once = |side: &Side| {
-        let start = Instant::now();
-        (side.run)(calls);
-        start.elapsed().as_nanos() as f64 / (calls * case.per) as f64
-    };
-    let mut samples = [Vec::new(), Vec::new()];
-    for _ in 0..31 {
-        samples[0].push(once(&case.ours));
-        samples[1].push(once(&case.rust));
+/// Tells cases, with the number that the first one has. The calls of a count make some 100,000 instructions or more.
+fn tell(cases: &[Case], first: usize) {
+    for (number, case) in (first..).zip(cases) {
+        let rounds = if case.per == 1 { 2000 } else { 2 };
+        println!("{number} {rounds} {} {} {}", case.per, case.goal, case.name);
     }
-    samples.map(|mut s| {
-        s.sort_by(f64::total_cmp);
-        s[s.len() / 2]
-    })
+}
+
+/// The nanoseconds of one call or record, ours and the Rust's: the least of many runs of some 10 microseconds, one side after the other. What else
+/// the machine does makes a run longer, never shorter.
+fn times(case: &Case) -> [f64; 2] {
+    let calls = (2000 / case.per).max(1);
+    let mut least = [f64::MAX; 2];
+    for _ in 0..125 {
+        for (side, least) in [&case.ours, &case.rust].into_iter().zip(&mut least) {
+            let start = Instant::now();
+            (side.run)(calls);
+            *least = least.min(start.elapsed().as_nanos() as f64 / (calls * case.per) as f64);
+        }
+    }
+    least
+}
+
+fn journal(which: &str) {
+    let bytes = if which == "wild" { journals::wild() } else { journals::empty(which.parse().unwrap()) };
+    io::stdout().write_all(&bytes).unwrap();
 }
 
 fn main() {
-    let cases = cases();
+    let mut cases = cases::calls();
+    let calls = cases.len();
+    cases.extend(walks::growth());
     let words: Vec<String> = env::args().skip(1).collect();
     match words.iter().map(String::as_str).collect::<Vec<_>>()[..] {
         ["check"] => check(&cases),
-        ["cases"] => {
-            for case in &cases {
-                println!("{} {} {} {}", rounds(case), case.per, case.goal, case.name);
-            }
-        }
+        ["calls"] => tell(&cases[..calls], 1),
+        ["growth"] => tell(&cases[calls..], calls + 1),
         ["run", number, side, rounds] => {
             let case = &cases[number.parse::<usize>().unwrap() - 1];
             let side = if side == "ours" { &case.ours } else { &case.rust };
             (side.run)(rounds.parse().unwrap());
         }
         ["times"] => {
-            for case in &cases {
+            for (number, case) in (1..).zip(&cases[..calls]) {
                 let [ours, rust] = times(case);
-                println!("{ours:.2} {rust:.2}");
+                println!("{number} {ours:.3} {rust:.3}");
             }
         }
+        ["journal", which] => journal(which),
         _ => {
-            eprintln!("usage: bench check | cases | run N ours|rust ROUNDS | times");
+            eprintln!("usage: bench check | calls | growth | run N ours|rust ROUNDS | times | journal wild|RECORDS");
             exit(2);
         }
     }
