@@ -74,12 +74,12 @@ table_of_calls() {
         BEGIN {
             read_times("release")
             read_times("lto")
-            print "| instructions           |  ours | the Rust | goal | ratio  | by time |   LTO | ratio  | by time | ns: ours | the Rust |  ours |   LTO |"
+            print "| instructions                      |  ours | the Rust | goal | ratio  | by time |   LTO | ratio  | by time | ns: ours | the Rust |  ours |   LTO |"
             print "|---|---|---|---|---|---|---|---|---|---|---|---|---|"
         }
         {
             a = least["release " $1 " 1"]; b = least["release " $1 " 2"]; c = least["lto " $1 " 1"]; d = least["lto " $1 " 2"]
-            printf "| %-22s | %5.1f | %8.1f | %4s | %6s | %7s |", $7, $4 / $2, $5 / $2, $3, ratio("calls", $4, $5, $3), ratio("time", a, b, $3)
+            printf "| %-33s | %5.1f | %8.1f | %4s | %6s | %7s |", $7, $4 / $2, $5 / $2, $3, ratio("calls", $4, $5, $3), ratio("time", a, b, $3)
             printf " %5.1f | %6s | %7s |", $6 / $2, ratio("LTO", $4, $6, 1), ratio("LTO, time", c, d, 1)
             printf " %8s | %8s | %5s | %5s |\n", ns(a), ns(b), ns(c), ns(d)
         }

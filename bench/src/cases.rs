@@ -343,5 +343,7 @@ pub fn calls() -> Vec<Case> {
         walks::walk("walk, large records", large),
         walks::steps("steps, small records", small),
         walks::steps("steps, large records", large),
+        walks::steps_in_registers("steps in registers, small records", small),
+        walks::steps_in_registers("steps in registers, large records", large),
     ]
 }

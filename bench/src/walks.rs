@@ -1,5 +1,5 @@
 //! The cases of the walk: a whole journal in one call, and record by record.
-use crate::cases::{Case, Room, given, kept, side};
+use crate::cases::{Case, Room, Side, given, kept, side};
 use crate::{journals, rust};
 use balunduwa::raw;
 use std::hint::black_box;
@@ -37,18 +37,14 @@ fn seen<A>(answer: A) -> A {
     answer
 }
 
-/// The walk record by record: a step, against the Rust's reader, each behind a call. Both give the caller every record.
-pub fn steps(name: &'static str, (journal, count): Journal) -> Case {
-    let ours = |journal: &&'static [u8], _: &mut Room| {
-        let mut count = 0;
-        let mut step = seen(raw::walk_step(journal, 0));
-        while step.refusal.number == 0 && step.what == raw::RECORD {
-            count += 1;
-            step = seen(raw::walk_step(journal, step.next));
-        }
-        (count, step.next)
-    };
-    let rust = |journal: &&'static [u8], _: &mut Room| {
+/// A side that goes over a journal record by record, and gives the number of records and the place of the end.
+fn by_record(journal: &'static [u8], walk: impl Fn(&&'static [u8], &mut Room) -> (usize, usize) + Copy + 'static) -> Side {
+    side(journal, walk, |_, (count, place)| vec![*count as u64, *place as u64])
+}
+
+/// The Rust's side of a walk record by record: its reader, behind a call.
+fn by_reader(journal: &'static [u8]) -> Side {
+    by_record(journal, |journal, _| {
         let (mut count, mut place) = (0, 0);
         let mut step = seen(rust::tlv_read(&journal[place..]));
         while let Ok(tlv) = step {
@@ -57,9 +53,40 @@ pub fn steps(name: &'static str, (journal, count): Journal) -> Case {
             step = seen(rust::tlv_read(&journal[place..]));
         }
         (count, place)
+    })
+}
+
+/// The walk record by record: a step, against the Rust's reader, each behind a call. Both give the caller every record.
+pub fn steps(name: &'static str, (journal, count): Journal) -> Case {
+    let ours = by_record(journal, |journal, _| {
+        let mut count = 0;
+        let mut step = seen(raw::walk_step(journal, 0));
+        while step.refusal.number == 0 && step.what == raw::RECORD {
+            count += 1;
+            step = seen(raw::walk_step(journal, step.next));
+        }
+        (count, step.next)
+    });
+    Case { name, goal: 1.0, per: count, ours, rust: by_reader(journal) }
+}
+
+/// The same by the step that answers in registers. What black_box takes is a copy, so that the next place does not go through memory.
+pub fn steps_in_registers(name: &'static str, (journal, count): Journal) -> Case {
+    let next = |journal: &[u8], place| {
+        let step = raw::walk_next(journal, place);
+        black_box(step);
+        step
     };
-    let numbers = |_: &&'static [u8], (count, place): &(usize, usize)| vec![*count as u64, *place as u64];
-    Case { name, goal: 1.0, per: count, ours: side(journal, ours, numbers), rust: side(journal, rust, numbers) }
+    let ours = by_record(journal, move |journal, _| {
+        let mut count = 0;
+        let mut step = next(journal, 0);
+        while step.what == raw::RECORD {
+            count += 1;
+            step = next(journal, step.next);
+        }
+        (count, step.next)
+    });
+    Case { name, goal: 1.0, per: count, ours, rust: by_reader(journal) }
 }
 
 /// Journals of more and more records with no value, up to the limit: what a record costs is to stay as it is.
