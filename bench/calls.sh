@@ -8,8 +8,8 @@ build_program() { # PROFILE PLACE
     cp "$top/target/cargo/x86_64-unknown-linux-gnu/$1/bench" "$programs/$1.$2"
 }
 
-# Builds the program in both ways, and compares the two sides' answers. To be timed it is built at each of the four places in 64 bytes where a function
-# can begin.
+# Builds the program in both ways, and compares the two sides' answers. To be timed it is built at each of the four places in 64 bytes where a
+# function can begin.
 build_calls() {
     places=0
     [ "$machine" != x86_64 ] || places='0 16 32 48'
