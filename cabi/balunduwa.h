@@ -5,7 +5,8 @@
  *
  * An answer is a struct by value. It begins with a refusal: number 0 where there is none, else a number from 1 to 15 (README.md, 'The answers by
  * number'), with the refusal's values in that table's order and 0 for each value that it does not carry. Behind it stands what the call gives, which is 0
- * throughout where the call refuses. A call that refuses changes no byte of a buffer.
+ * throughout where the call refuses. One answer is otherwise, balunduwa_next: its what tells a refusal. A call that refuses changes no byte of a
+ * buffer.
  *
  * Bytes are lent as a pointer and a length. The caller sees to two things, and nothing tests them: no pointer is NULL, also where the length is
  * 0, and as many bytes stand there as the length says; and what is written to (buf) does not overlap what is read from (src). A span is a part of
@@ -125,7 +126,8 @@ balunduwa_written balunduwa_response_write(balunduwa_response response, const ui
 
 /* ---- The walk over a journal */
 
-/* What stands at a place: a record, the whole end, or the cut end. The last is told by balunduwa_walk_next alone. */
+/* What stands at a place: a record, the whole end, or the cut end. BALUNDUWA_REFUSED stands in a balunduwa_next alone: where balunduwa_walk_step
+ * refuses, what is 0, which is BALUNDUWA_RECORD, so look at refusal.number first. */
 enum { BALUNDUWA_RECORD = 0, BALUNDUWA_WHOLE = 1, BALUNDUWA_CUT = 2, BALUNDUWA_REFUSED = 3 };
 
 /* Where a record stands: its type byte, its value, and in next the place behind it. At an end: tlv_type is 0, value is the bytes from the end's
@@ -143,9 +145,9 @@ typedef struct {
 /* What stands at a place of the journal: 14, 15. */
 balunduwa_step balunduwa_walk_step(const uint8_t *buf, size_t buf_len, size_t place);
 
-/* The same in two registers, for a loop over many records: what, the type byte, and next as above. A record's value starts at place + 2 and ends at
- * next; a stump starts at next and ends with the buffer. Where what is BALUNDUWA_REFUSED, refusal is the number, 14 or 15, and next is 0; its value is
- * buf_len or place. */
+/* The same in two registers, for a loop over many records: what, tlv_type and next are as above. A record's value starts at place + 2 and ends at
+ * next; a stump starts at next and ends with the buffer. Where the call refuses, what is BALUNDUWA_REFUSED, refusal is 14 (its value is buf_len) or
+ * 15 (its value is place), and next and tlv_type are 0: do not go on at next. Else refusal is 0. */
 typedef struct {
     size_t next;
     uint8_t tlv_type;
@@ -175,7 +177,7 @@ typedef struct {
 } balunduwa_kind;
 
 /* What kind of record stands at a place of the journal, by the plain reader of its type: 14, 15, or that reader's refusal. Ask it where
- * balunduwa_walk_step tells a record. No record stands at an end, and an end has no kind: a whole end is refusal 1 (0, 2), which is what the TLV's
+ * balunduwa_walk_step or balunduwa_walk_next tells a record. No record stands at an end, and an end has no kind: a whole end is refusal 1 (0, 2), which is what the TLV's
  * reader says of no bytes, and a cut end is a refusal of the reader that the stump's first byte names: 1, and of an entity ID also 2 or 5. */
 balunduwa_kind balunduwa_kind_at(const uint8_t *buf, size_t buf_len, size_t place);
 

@@ -300,6 +300,13 @@ static void next(int line, const uint8_t *buf, size_t n, size_t place, balunduwa
     same(line, "the refusal, in registers", a.refusal, expected.refusal.number);
     same(line, "the type, in registers", a.tlv_type, expected.tlv_type);
     same(line, "the next place, in registers", a.next, expected.next);
+    if (refused) {
+        same(line, "the refusal's value, in registers", a.refusal == 14 ? n : place, expected.refusal.first);
+        return;
+    }
+    size_t start = a.what == BALUNDUWA_RECORD ? place + 2 : a.next;
+    size_t end = a.what == BALUNDUWA_RECORD ? a.next : n;
+    same_span(line, "the value's start, in registers", "the value's length, in registers", SPAN(start, end - start), expected.value);
 }
 
 static void step(int line, size_t n, size_t place, balunduwa_step expected) {

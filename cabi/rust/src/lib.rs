@@ -221,9 +221,9 @@ pub fn write_response(response: Response, src: &[u8], buf: &mut [u8]) -> Result<
     written(raw::response_write(response, src, buf))
 }
 
-/// What stands at a place of the journal. The call answers in two registers: a record's value ends at the next place, a stump with the journal, and a
-/// refusal's value is the journal's length or the place.
+/// What stands at a place of the journal.
 pub fn step(journal: &[u8], place: usize) -> Result<Step<'_>, Refusal> {
+    // The call tells no span and no values: a record's value ends at the next place, a stump with the journal; 14 carries the length, 15 the place.
     let raw::Next { next, tlv_type, what, refusal } = raw::walk_next(journal, place);
     match what {
         raw::RECORD => Ok(Step::Record(Record { place, tlv_type, value: &journal[place + 2..next] }, next)),

@@ -1,4 +1,4 @@
--- The laws of `specs/Boundary.antt` that the functions cite. Assumes nothing.
+-- The laws of `specs/Boundary.antt` that the functions cite, and one of the walk's steps. Assumes nothing.
 use mathlib.Core.Path.{_≡_, refl, sym, ap, _∙_}
 use Prim.Native.Nat.{ℕ}
 use mathlib.Core.List.{List}
@@ -20,8 +20,8 @@ pub told-out : {E A T : Type 0} (out : Numbered → A → T) (z : A) (told : E �
 told-out out z told a e p q = ap (λ m. out m (orElse z (told e))) p ∙ sym (ap (λ x. crossed out z (told x)) q)
 
 -- a step that is an end, and which
-pub ended : {a : Step} {e f : End} → a ≡ Ended e → e ≡ f → a ≡ Ended f
-ended p q = p ∙ ap Ended q
+pub is-end : {a : Step} {e f : End} → a ≡ Ended e → e ≡ f → a ≡ Ended f
+is-end p q = p ∙ ap Ended q
 
 -- a call's answer `a` crosses where it is handed on as the case `e` that it is
 pub crosses : {E A T : Type 0} (out : Answer A → T) (told : E → Answer A) {a e : E} {x : Answer A} {r : T} → r ≡ out (told e) → a ≡ e → told a ≡ x → r ≡ out x

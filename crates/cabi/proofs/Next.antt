@@ -1,5 +1,5 @@
--- A STEP IN TWO REGISTERS: all that a step tells follows from them, from the place, and from how many bytes there are. A record's length byte says where it
--- ends, so where it ends says its length. Assumes nothing.
+-- A STEP IN TWO REGISTERS: all that a step tells follows from them, from the place, and from how many bytes there are. A record's length byte says
+-- where it ends, so where it ends says its length. Assumes nothing.
 use mathlib.Core.Path.{_≡_, refl, sym, ap, subst, _∙_}
 use Prim.Native.Nat.{ℕ, _+_, _-_, _≤_}
 use native.Mathlib.Omega.{arith}

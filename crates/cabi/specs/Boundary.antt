@@ -52,7 +52,7 @@ abbrev pub refusal : {A : Type 0} → Answer A → Numbered
 refusal (gives a) = numbered 0 []
 refusal (refuses n vs) = numbered n vs
 
--- ---- ANSWERS: a struct has the refusal, and behind it what is given; where nothing is given, all of that is 0
+-- ---- ANSWERS: a struct has the refusal, and behind it what is given; where nothing is given, all of that is 0 (a step in two registers is otherwise)
 
 -- what is given, or z where nothing is
 abbrev pub orElse : {A : Type 0} → A → Answer A → A
@@ -184,8 +184,8 @@ nextAnswer (gives (ended (Whole place))) = nextBy place 0 1 0
 nextAnswer (gives (ended (Cut place behind))) = nextBy place 0 2 0
 nextAnswer (refuses n vs) = nextBy 0 0 3 n
 
--- what a step at the place p of n bytes tells, from two registers: a record's value starts behind the type and length bytes and ends at the next place, and
--- a stump ends with the bytes. 14 carries n, and 15 carries p.
+-- what a step at the place p of n bytes tells, from two registers: a record's value starts behind the type and length bytes and ends at the next
+-- place, and a stump ends with the bytes. 14 carries n, and 15 carries p.
 abbrev pub stepOf : ℕ → ℕ → NextAnswer → StepAnswer
 stepOf n p x =
     pick (eqb (x .what) 0) (stepBy (numbered 0 []) 0 (x .«tlv_type») (span (p + 2) (x .next - (p + 2))) (x .next))

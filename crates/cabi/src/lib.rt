@@ -1,6 +1,7 @@
 // The library for C: each function is one call of the library, on numbers and lent bytes, and answers a struct by value. cabi/balunduwa.h declares
 // them again for C. An answer begins with a refusal, number 0 where there is none; behind it stands what the call gives, 0 where it refuses.
-// Where something is given, a call returns at once: so LLVM keeps that way apart from the refusals' and has nothing to move from one to the other.
+// `NextAnswer` is otherwise. The readers, the writers and the steps return at once where they give a value, bytes or a record: so LLVM keeps that way
+// apart from the others and has nothing to move from one to another.
 mod answers;
 mod arguments;
 
@@ -116,8 +117,8 @@ pub struct StepAnswer {
     pub next: usize,
 }
 
-// The same, in two registers. A record's value starts at its place and 2, and ends at `next`; a stump ends with the buffer. `what` is 3 where the call
-// refuses: `refusal` is the number, and its value is the buffer's length (14) or the place (15).
+// The same, in two registers. A record's value starts 2 bytes behind its place and ends at `next`; a stump ends with the buffer. `what` is 3 where the
+// call refuses: `refusal` is the number, and its value is the buffer's length (14) or the place (15).
 #[repr(C)]
 pub struct NextAnswer {
     pub next: usize,
@@ -222,6 +223,7 @@ pub extern "C" fn balunduwa_entity_write(width: usize, value: u64, buf: &mut [u8
     answers::written(a)
 }
 
+// One return for two names and one for one, so that no field that is known to be 0 goes through a register.
 #[no_mangle]
 pub extern "C" fn balunduwa_request_read(buf: &[u8]) -> RequestAnswer
     ensures { λ r. ⌜ r ≡ requestAnswer (readRequest (now (buf .entry))) ⌝ }

@@ -114,8 +114,8 @@ fn room_test(id: UnsignedByteField, n: usize) -> Checked
     Checked::Fine
 }
 
-// The number of the first w bytes of v. Where its caller names w, LLVM makes it one load. (A length inside a slice it does not see where it decides
-// what to copy into the caller.)
+// The number of the first w bytes of v. Where its caller names w, LLVM makes it one load. w is an argument of its own, since LLVM does not see a
+// slice's length when it decides what to inline.
 fn first(v: &[u8], w: usize) -> u64
     requires { ⌜ (w ≤ length (now v)) × (w ≤ 8) ⌝ }
     ensures { λ r. ⌜ r ≡ ofBe (take w (now (v .entry))) ⌝ }

@@ -306,8 +306,8 @@ impl FilestoreTlvBase {
         Written::Bytes(expected)
     }
 
-    // The same without the message: a request. A writer for each kind, so that each has one caller, into which LLVM inlines it, and the tests for a
-    // message drop out here. A request through `write_to_slice` would take half as many instructions again.
+    // The same without the message: a request. Each kind has a writer of its own: so each writer has one caller, into which LLVM inlines it, and the
+    // tests for a message drop out here. A request through `write_to_slice` would take half as many instructions again.
     pub fn write_request(self, src: &[u8], buf: &mut [u8]) -> Written
         ensures { λ r. ⌜ Wrote 0 (writeBase (baseOf (self .«action_code») (self .«low_bits») (self .«first_name») (self .«second_name») SecondName.Absent) (now (src .entry)) (length (now (buf .entry)))) (toldWritten r) (now (buf .entry)) (now (buf .exit)) ⌝ }
     {

@@ -13,7 +13,7 @@ use refusal::Refusal;
 use tlv::Tlv;
 ghost use mathlib.Core.Path.{_≡_};
 ghost use mathlib.Core.List.{[], _∷_};
-ghost use Prim.Native.Nat.{_+_, _≤_, _<_};
+ghost use Prim.Native.Nat.{_≤_, _<_};
 ghost use lib.ListN.{length};
 ghost use Rattle.refusal.specs.Answer.{refuses};
 ghost use Rattle.refusal.specs.Told.{toldChecked};

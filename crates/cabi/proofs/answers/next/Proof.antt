@@ -3,7 +3,7 @@ use mathlib.Core.Path.{_≡_, sym, ap, _∙_}
 use Rattle.walk.specs.Told.{toldStep}
 use Rattle.walk.specs.declared.Step.{Step}
 use Rattle.cabi.specs.Boundary.{nextBy, nextAnswer}
-use Rattle.cabi.proofs.Laws.{ended}
+use Rattle.cabi.proofs.Laws.{is-end}
 use borrow.Author.Needs.{needs}
 use Rattle.cabi.proofs.answers.next.Statement.{statement}
 use Rattle.cabi.proofs.answers.next.Tie as tie
@@ -40,10 +40,10 @@ returns : tie.Need-returns
 returns c = case (c .before .a .given .1)
 
 returns-2 : tie.Need-returns-2
-returns-2 c = c .end-next .ensures ∙ case (ended (c .before .before .before .before .before .a2 .given .1) (c .before .before .end .given .1))
+returns-2 c = c .end-next .ensures ∙ case (is-end (c .before .before .before .before .before .a2 .given .1) (c .before .before .end .given .1))
 
 returns-3 : tie.Need-returns-3
-returns-3 c = c .end-next2 .ensures ∙ case (ended (c .before .before .before .before .before .a2 .given .1) (c .before .before .end2 .given .1))
+returns-3 c = c .end-next2 .ensures ∙ case (is-end (c .before .before .before .before .before .a2 .given .1) (c .before .before .end2 .given .1))
 
 returns-4 : tie.Need-returns-4
 returns-4 c = ap (nextBy 0 0 3) (c .number .ensures) ∙ case (c .before .before .a3 .given .1)

@@ -2,7 +2,7 @@
 use mathlib.Core.Path.{_∙_}
 use Rattle.walk.specs.Told.{toldStep}
 use Rattle.cabi.specs.Boundary.{stepOut, noStep}
-use Rattle.cabi.proofs.Laws.{told-out, ended}
+use Rattle.cabi.proofs.Laws.{told-out, is-end}
 use borrow.Author.Needs.{needs}
 use Rattle.cabi.proofs.answers.step.Statement.{statement}
 use Rattle.cabi.proofs.answers.step.Tie as tie
@@ -53,10 +53,10 @@ returns c =
     ∙ told-out stepOut noStep toldStep _ _ (c .before .none .ensures) (c .before .before .before .before .a .given .1)
 
 returns-2 : tie.Need-returns-2
-returns-2 c = c .at .ensures ∙ told-out stepOut noStep toldStep _ _ (c .before .none2 .ensures) (ended (c .before .before .before .before .before .before .a2 .given .1) (c .before .before .before .end .given .1))
+returns-2 c = c .at .ensures ∙ told-out stepOut noStep toldStep _ _ (c .before .none2 .ensures) (is-end (c .before .before .before .before .before .before .a2 .given .1) (c .before .before .before .end .given .1))
 
 returns-3 : tie.Need-returns-3
-returns-3 c = c .at2 .ensures ∙ told-out stepOut noStep toldStep _ _ (c .before .none3 .ensures) (ended (c .before .before .before .before .before .before .a2 .given .1) (c .before .before .before .end2 .given .1))
+returns-3 c = c .at2 .ensures ∙ told-out stepOut noStep toldStep _ _ (c .before .none3 .ensures) (is-end (c .before .before .before .before .before .before .a2 .given .1) (c .before .before .before .end2 .given .1))
 
 returns-4 : tie.Need-returns-4
 returns-4 c = c .at3 .ensures ∙ told-out stepOut noStep toldStep _ _ (c .before .refusal .ensures) (c .before .before .before .a3 .given .1)

@@ -1,4 +1,5 @@
--- `EntityIdTlv::from_bytes` meets its contract, by the cases of `readEntity`. Assumes nothing.
+-- `EntityIdTlv::from_bytes` meets its contract, by the cases of `readEntity`. The number is read before the width is tested; it is told only where the
+-- width is allowed and the bytes are there, and there `value_at` says what it is. Assumes nothing.
 use mathlib.Core.Path.{_≡_, sym, ap, _∙_}
 use native.Mathlib.Omega.{arith}
 use lib.ListN.{length, take, drop, getD, length-drop}

@@ -1,7 +1,7 @@
 -- `FilestoreTlvBase::put_head` meets its contract: behind the building tests each of the three numbers is a byte. Assumes nothing.
-use mathlib.Core.Path.{_≡_, ap, _∙_}
+use mathlib.Core.Path.{ap, _∙_}
 use native.Mathlib.Omega.{arith}
-use Prim.Native.Nat.{ℕ, _+_, _*_}
+use Prim.Native.Nat.{_+_, _*_}
 use lib.ListN.{set, length-set}
 use Rattle.tlv.specs.Kinds.{codeOf}
 use Rattle.action.proofs.Laws.{code-known}
