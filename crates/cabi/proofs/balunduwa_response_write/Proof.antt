@@ -1,10 +1,10 @@
 -- `cabi::balunduwa_response_write` meets its contract: an argument that is refused writes nothing; else the call's answer crosses. Assumes nothing.
-use mathlib.Core.Path.{sym, ap, _∙_}
-use denote.Ref.{now}
+use mathlib.Core.Path.{_≡_, sym, ap, _∙_}
 use lib.ListN.{length}
 use Rattle.filestore_base.specs.Rules.{writeBase}
 use Rattle.filestore_response.specs.Rules.{responseBase}
 use Rattle.filestore_response.specs.Told.{toldResponse}
+use Rattle.cabi.specs.Boundary.{writeResponse}
 use Rattle.cabi.proofs.Laws.{sent, sent-as, unsent, given, ungiven}
 use borrow.Author.Needs.{needs}
 use Rattle.cabi.proofs.balunduwa_response_write.Statement.{statement}
@@ -28,8 +28,16 @@ written-requires c κs = search needs
 same-length : tie.Need-same-length
 same-length c = search needs
 
+-- what is written is what the library writes of the response that C hands in
+handed : (c : tie.After-write-to-slice) → (let a = c .before .before .before .before .before .before .before .before .args in writeResponse (a .response) (a .src .now) (length (a .buf .now)) ≡ writeBase (responseBase (c .before .before .before .q .given .0 .0)) (a .src .now) (length (a .buf .now)))
+handed c =
+    let a = c .before .before .before .before .before .before .before .before .args in
+    given (λ x. writeBase (responseBase x) (a .src .now) (length (a .buf .now))) (sym (ap toldResponse (c .before .before .before .q .given .1)) ∙ c .before .before .before .before .before .response .ensures)
+
 returns : tie.Need-returns
-returns c = sent-as (given (λ x. writeBase (responseBase x) (now (c .before .before .before .before .before .before .before .before .before .before .before .before .before .before .args .src)) (length (now (c .before .before .before .before .before .before .before .before .before .before .before .before .before .before .args .buf)))) (sym (ap toldResponse (c .before .before .before .before .before .before .before .before .before .q .given .1)) ∙ c .before .before .before .before .before .before .before .before .before .before .before .response .ensures)) (c .written .ensures) (c .before .before .a .given .1) (c .before .before .before .before .before .before .write-to-slice .ensures)
+returns c =
+    let w = c .before .before .before .before .before .before in
+    sent-as (handed w) (c .written .ensures) (c .before .before .a .given .1) (w .write-to-slice .ensures)
 
 enum-told : tie.Need-enum-told
 enum-told c = search needs
@@ -47,10 +55,12 @@ same-length-2 : tie.Need-same-length-2
 same-length-2 c = search needs
 
 returns-2 : tie.Need-returns-2
-returns-2 c = sent (given (λ x. writeBase (responseBase x) (now (c .before .before .before .before .before .before .before .before .before .before .before .before .before .args .src)) (length (now (c .before .before .before .before .before .before .before .before .before .before .before .before .before .args .buf)))) (sym (ap toldResponse (c .before .before .before .before .before .before .before .before .q .given .1)) ∙ c .before .before .before .before .before .before .before .before .before .before .response .ensures)) (c .written2 .ensures) (c .before .before .before .before .before .write-to-slice .ensures)
+returns-2 c = let w = c .before .before .before .before .before in sent (handed w) (c .written2 .ensures) (w .write-to-slice .ensures)
 
 returns-3 : tie.Need-returns-3
-returns-3 c = unsent (ungiven (λ x. writeBase (responseBase x) (now (c .before .before .before .before .before .before .before .args .src)) (length (now (c .before .before .before .before .before .before .before .args .buf)))) (sym (ap toldResponse (c .before .before .r .given .1)) ∙ c .before .before .before .before .response .ensures)) (c .written3 .ensures)
+returns-3 c =
+    let a = c .before .before .before .before .before .before .before .args in
+    unsent (ungiven (λ x. writeBase (responseBase x) (a .src .now) (length (a .buf .now))) (sym (ap toldResponse (c .before .before .r .given .1)) ∙ c .before .before .before .before .response .ensures)) (c .written3 .ensures)
 
 pub balunduwa-response-write-spec : {M : Type 1} → statement M
 balunduwa-response-write-spec =
