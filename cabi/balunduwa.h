@@ -177,8 +177,9 @@ typedef struct {
 } balunduwa_kind;
 
 /* What kind of record stands at a place of the journal, by the plain reader of its type: 14, 15, or that reader's refusal. Ask it where
- * balunduwa_walk_step or balunduwa_walk_next tells a record. No record stands at an end, and an end has no kind: a whole end is refusal 1 (0, 2), which is what the TLV's
- * reader says of no bytes, and a cut end is a refusal of the reader that the stump's first byte names: 1, and of an entity ID also 2 or 5. */
+ * balunduwa_walk_step or balunduwa_walk_next tells a record. No record stands at an end, and an end has no kind: a whole end is refusal 1 (0, 2), which
+ * is what the TLV's reader says of no bytes, and a cut end is a refusal of the reader that the stump's first byte names: 1, and of an entity ID also 2
+ * or 5. */
 balunduwa_kind balunduwa_kind_at(const uint8_t *buf, size_t buf_len, size_t place);
 
 #ifdef __cplusplus
