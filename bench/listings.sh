@@ -1,4 +1,4 @@
-# Sourced by bench/run: the listing of a journal, by the proved program dump and by two programs in C.
+# Sourced by bench/run: the listing of a journal, by the proved program dump and by three programs in C.
 
 # Makes the journals that are counted: of so many records with no value, of the types 0 to 6 in turn, and of two samples over and over, up to the
 # limit. And two that are only compared: one with every kind and every refusal, and one that is too long.
@@ -17,16 +17,24 @@ make_journals() {
     done >"$room/journals/samples"
 }
 
+# Builds a program in C, by hand, unrolled or printf.
+build_listing() { # PROGRAM FLAG..
+    program=$programs/$1
+    shift
+    $X86_CC -std=c11 -O3 "$@" "$top/bench/listing.c" -o "$program" || stop "bench/listing.c does not build"
+}
+
 build_listings() {
-    $X86_CC -std=c11 -O3 "$top/bench/listing.c" -o "$programs/hand" || stop "bench/listing.c does not build"
-    $X86_CC -std=c11 -O3 -DBY_PRINTF "$top/bench/listing.c" -o "$programs/printf" || stop "bench/listing.c does not build"
+    build_listing hand
+    build_listing unrolled -DUNROLLED
+    build_listing printf -DBY_PRINTF
 }
 
 run() { # COMMAND..
     $X86_RUN "$@"
 }
 
-# Lists standard input by a program, which is ours, hand or printf: it is run, or counted. Ours is loaded as in tools/run-proved.
+# Lists standard input by a program, which is ours or one in C: it is run, or counted. Ours is loaded as in tools/run-proved.
 list() { # PROGRAM run|count
     case $1 in
         ours) "$2" "$tools/lib/ld-linux-x86-64.so.2" --library-path "$tools/lib" "$dump" ;;
@@ -34,11 +42,11 @@ list() { # PROGRAM run|count
     esac
 }
 
-# Compares the listings of the three. Status 1 where they differ.
+# Compares the listings of the four. Status 1 where they differ.
 check_listings() {
     for journal in "$room"/journals/* "$top"/samples/*.tlv; do
         list ours run <"$journal" >"$room/ours.txt" || stop "dump does not list the journal ${journal##*/}"
-        for which in hand printf; do
+        for which in hand unrolled printf; do
             list "$which" run <"$journal" >"$room/$which.txt" || stop "bench/listing.c, $which, does not list the journal ${journal##*/}"
             cmp -s "$room/ours.txt" "$room/$which.txt" && continue
             echo "$me: bench/listing.c, $which, lists the journal ${journal##*/} otherwise than dump"
@@ -54,15 +62,15 @@ count_lines() { # PROGRAM JOURNAL
     echo "$((all - none))"
 }
 
-# A line for each journal: its records, the instructions of ours, of C by hand and of C by printf, its name.
+# A line for each journal: its records, the instructions of ours, of C by hand, with its digits unrolled and by printf, its name.
 measure_listings() {
     while read -r journal name; do
         list hand run <"$room/journals/$journal" >"$room/listed"
-        records=$(($(wc -l <"$room/listed") - 2))
-        ours=$(count_lines ours "$journal")
-        by_hand=$(count_lines hand "$journal")
-        by_printf=$(count_lines printf "$journal")
-        echo "$records|$ours|$by_hand|$by_printf|$name"
+        counts=$(($(wc -l <"$room/listed") - 2))
+        for which in ours hand unrolled printf; do
+            counts="$counts|$(count_lines "$which" "$journal")"
+        done
+        echo "$counts|$name"
     done <<END
 32768 records with no value
 samples records of the samples
@@ -71,14 +79,18 @@ END
 
 table_of_listings() {
     awk -F '|' '
+        # A ratio, and a star where, as it is printed, it is above 1.
+        function ratio(ours, other,   text) {
+            text = sprintf("%.3f", ours / other)
+            return text (text + 0 > 1 ? "*" : " ")
+        }
         BEGIN {
-            print "| a line of a listing    |  ours | C by hand | goal | ratio  | C by printf | ratio  |"
-            print "|---|---|---|---|---|---|---|"
+            print "| a line of a listing    |  ours | C by hand | goal | ratio  | C unrolled | ratio  | C by printf | ratio  |"
+            print "|---|---|---|---|---|---|---|---|---|"
         }
         {
-            ratio = sprintf("%.3f", $2 / $3)
-            star = ratio + 0 > 1 ? "*" : " "
-            printf "| %-22s | %5.1f | %9.1f |    1 | %s%s | %11.1f | %.3f  |\n", $5, $2 / $1, $3 / $1, ratio, star, $4 / $1, $2 / $4
+            printf "| %-22s | %5.1f | %9.1f |    1 | %s | %10.1f | %s |", $6, $2 / $1, $3 / $1, ratio($2, $3), $4 / $1, ratio($2, $4)
+            printf " %11.1f | %s |\n", $5 / $1, ratio($2, $5)
         }
         END { print "" }' "$room/listings"
 }
