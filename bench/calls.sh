@@ -12,7 +12,7 @@ build_program() { # PROFILE PLACE
 # function can begin.
 build_calls() {
     places=0
-    [ "$machine" != x86_64 ] || places='0 16 32 48'
+    [ -n "$untimed" ] || places='0 16 32 48'
     for profile in release lto; do
         for place in $places; do
             build_program "$profile" "$place"
@@ -46,7 +46,7 @@ measure_calls() {
         rust=$(count_calls release "$number" rust "$rounds")
         lto=$(count_calls lto "$number" rust "$rounds")
         echo "$number|$((rounds * per))|$goal|$ours|$rust|$lto|$name"
-        [ "$machine" != x86_64 ] || time_calls
+        [ -n "$untimed" ] || time_calls
     done <"$room/cases"
 }
 
