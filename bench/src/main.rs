@@ -15,8 +15,8 @@ use cases::Case;
 use std::io::Write;
 use std::{arch::global_asm, env, io, process::exit, time::Instant};
 
-// Stands first in the program's code, and moves all that follows by PLACE bytes. Where a function lies within 64 bytes changes its time by a half and
-// more, so that bench/run builds the program at four places and takes each side where it is quickest.
+// Stands first in the program's code, and moves all that follows by PLACE bytes. Where a function lies within 64 bytes changed a ratio by up to a half,
+// so that bench/run builds the program at four places and takes each side where it is quickest.
 global_asm!(".pushsection .text.place, \"axR\", @progbits", concat!(".skip ", env!("PLACE"), ", 0x90"), ".popsection");
 
 fn check(cases: &[Case]) {
