@@ -62,7 +62,7 @@ table_of_calls() {
                 }
             }
         }
-        # A ratio, and a star where, as it is printed, it is above its goal.
+        # A ratio, and a star where, as it is printed, it is above its goal: that of the case by instructions beside the Rust as it stands, else 1.
         function ratio(kind, ours, other, goal,   text) {
             if (ours == "") return "- "
             text = sprintf("%.3f", ours / other)
@@ -79,7 +79,7 @@ table_of_calls() {
         }
         {
             a = least["release " $1 " 1"]; b = least["release " $1 " 2"]; c = least["lto " $1 " 1"]; d = least["lto " $1 " 2"]
-            printf "| %-33s | %5.1f | %8.1f | %4s | %6s | %7s |", $7, $4 / $2, $5 / $2, $3, ratio("calls", $4, $5, $3), ratio("time", a, b, $3)
+            printf "| %-33s | %5.1f | %8.1f | %.2f | %6s | %7s |", $7, $4 / $2, $5 / $2, $3, ratio("calls", $4, $5, $3), ratio("time", a, b, 1)
             printf " %5.1f | %6s | %7s |", $6 / $2, ratio("LTO", $4, $6, 1), ratio("LTO, time", c, d, 1)
             printf " %8s | %8s | %5s | %5s |\n", ns(a), ns(b), ns(c), ns(d)
         }

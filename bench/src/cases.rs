@@ -22,12 +22,19 @@ pub struct Side {
 
 pub struct Case {
     pub name: &'static str,
-    /// What the ratio is to be, or less.
+    /// What the ratio by instructions, beside the Rust as it stands, is to be, or less.
     pub goal: f64,
     /// How many records one call walks, else 1: what is counted is counted for each.
     pub per: usize,
     pub ours: Side,
     pub rust: Side,
+}
+
+impl Case {
+    /// The case with a goal of its own, so that a call which gets slower is seen before it is slower than the Rust.
+    fn within(self, goal: f64) -> Case {
+        Case { goal, ..self }
+    }
 }
 
 /// A side, of an input that is laid ready, a call, and the answer as numbers. The loop is the same for both sides: the input and the room are a
@@ -52,7 +59,7 @@ pub fn side<I: Copy + 'static, A>(
     Side { run: Box::new(run), says: Box::new(says) }
 }
 
-/// A case of one call.
+/// A case of one call. Its goal is 1 where it gets no other.
 fn call(name: &'static str, ours: Side, rust: Side) -> Case {
     Case { name, goal: 1.0, per: 1, ours, rust }
 }
@@ -311,39 +318,39 @@ fn response_write(name: &'static str, value: Value) -> Case {
     )
 }
 
-/// The cases of the table.
+/// The cases of the table, each with its goal.
 pub fn calls() -> Vec<Case> {
     let create = Value { action: FilestoreActionCode::CreateFile, first: 16, second: None, message: 16 };
     let rename = Value { action: FilestoreActionCode::RenameFile, first: 16, second: Some(20), message: 16 };
     let (small, large) = (walks::filled(0), walks::filled(249));
     vec![
-        lv_read("LV read, 16 bytes", 16),
-        lv_write("LV write, 16 bytes", 16),
-        tlv_read("TLV read, 16 bytes", 16),
-        tlv_write("TLV write, 0 bytes", 0),
-        tlv_write("TLV write, 16 bytes", 16),
-        tlv_write("TLV write, 255 bytes", 255),
-        entity_read("entity read, width 1", 1),
-        entity_read("entity read, width 2", 2),
-        entity_read("entity read, width 4", 4),
-        entity_read("entity read, width 8", 8),
-        entity_write("entity write, width 1", 1),
-        entity_write("entity write, width 2", 2),
-        entity_write("entity write, width 4", 4),
-        entity_write("entity write, width 8", 8),
-        request_read("request read, create", create),
-        request_read("request read, rename", rename),
-        request_write("request write, create", create),
-        request_write("request write, rename", rename),
-        response_read("response read, create", create),
-        response_read("response read, rename", rename),
-        response_write("response write, create", create),
-        response_write("response write, rename", rename),
-        walks::walk("walk, small records", small),
-        walks::walk("walk, large records", large),
-        walks::steps("steps, small records", small),
-        walks::steps("steps, large records", large),
-        walks::steps_in_registers("steps in registers, small records", small),
-        walks::steps_in_registers("steps in registers, large records", large),
+        lv_read("LV read, 16 bytes", 16).within(0.82),
+        lv_write("LV write, 16 bytes", 16).within(0.72),
+        tlv_read("TLV read, 16 bytes", 16).within(0.71),
+        tlv_write("TLV write, 0 bytes", 0).within(0.85),
+        tlv_write("TLV write, 16 bytes", 16).within(0.68),
+        tlv_write("TLV write, 255 bytes", 255).within(0.86),
+        entity_read("entity read, width 1", 1).within(0.70),
+        entity_read("entity read, width 2", 2).within(0.70),
+        entity_read("entity read, width 4", 4).within(0.70),
+        entity_read("entity read, width 8", 8).within(0.70),
+        entity_write("entity write, width 1", 1).within(0.80),
+        entity_write("entity write, width 2", 2).within(0.80),
+        entity_write("entity write, width 4", 4).within(0.80),
+        entity_write("entity write, width 8", 8).within(0.80),
+        request_read("request read, create", create).within(0.82),
+        request_read("request read, rename", rename).within(0.82),
+        request_write("request write, create", create).within(0.75),
+        request_write("request write, rename", rename).within(0.75),
+        response_read("response read, create", create).within(0.76),
+        response_read("response read, rename", rename).within(0.76),
+        response_write("response write, create", create).within(0.57),
+        response_write("response write, rename", rename).within(0.57),
+        walks::walk("walk, small records", small).within(0.24),
+        walks::walk("walk, large records", large).within(0.24),
+        walks::steps("steps, small records", small).within(0.81),
+        walks::steps("steps, large records", large).within(0.81),
+        walks::steps_in_registers("steps in registers, small records", small).within(0.72),
+        walks::steps_in_registers("steps in registers, large records", large).within(0.72),
     ]
 }

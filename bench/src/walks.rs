@@ -16,7 +16,7 @@ pub fn filled(least: usize) -> Journal {
 pub fn walk(name: &'static str, (journal, count): Journal) -> Case {
     Case {
         name,
-        goal: 0.5,
+        goal: 1.0,
         per: count,
         ours: side(
             journal,
