@@ -6,14 +6,17 @@
 //!   bench run N SIDE ROUNDS  makes the calls of case N on the side ours or rust
 //!   bench times              a line for each of the calls: its number, and nanoseconds, ours and the Rust's, for a call or a record
 //!   bench journal WHICH      writes a journal: the wild one, or one of so many records with no value
+//!   bench listing ROUNDS JOURNAL COMMAND
+//!                            the nanoseconds of a command, with its arguments, that lists a journal: the least of so many runs
 mod cases;
 mod journals;
 mod rust;
+mod times;
 mod walks;
 
 use cases::Case;
 use std::io::Write;
-use std::{arch::global_asm, env, io, process::exit, time::Instant};
+use std::{arch::global_asm, env, io, process::exit};
 
 // Stands first in the program's code, and moves all that follows by PLACE bytes. Where a function lies within 64 bytes changed a ratio by up to a half,
 // so that bench/run builds the program at four places and takes each side where it is quickest.
@@ -41,21 +44,6 @@ fn tell(cases: &[Case], first: usize) {
     }
 }
 
-/// The nanoseconds of one call or record, ours and the Rust's: the least of many runs of some 10 microseconds, one side after the other. What else
-/// the machine does makes a run longer, never shorter.
-fn times(case: &Case) -> [f64; 2] {
-    let calls = (2000 / case.per).max(1);
-    let mut least = [f64::MAX; 2];
-    for _ in 0..125 {
-        for (side, least) in [&case.ours, &case.rust].into_iter().zip(&mut least) {
-            let start = Instant::now();
-            (side.run)(calls);
-            *least = least.min(start.elapsed().as_nanos() as f64 / (calls * case.per) as f64);
-        }
-    }
-    least
-}
-
 fn journal(which: &str) {
     let bytes = if which == "wild" { journals::wild() } else { journals::empty(which.parse().unwrap()) };
     io::stdout().write_all(&bytes).unwrap();
@@ -77,13 +65,16 @@ fn main() {
         }
         ["times"] => {
             for (number, case) in (1..).zip(&cases[..calls]) {
-                let [ours, rust] = times(case);
+                let [ours, rust] = times::call(case);
                 println!("{number} {ours:.3} {rust:.3}");
             }
         }
         ["journal", which] => journal(which),
+        ["listing", rounds, journal, program, ref arguments @ ..] => {
+            println!("{}", times::listing(rounds.parse().unwrap(), journal, program, arguments));
+        }
         _ => {
-            eprintln!("usage: bench check | calls | growth | run N ours|rust ROUNDS | times | journal wild|RECORDS");
+            eprintln!("usage: bench check | calls | growth | run N ours|rust ROUNDS | times | journal wild|RECORDS | listing ROUNDS JOURNAL COMMAND");
             exit(2);
         }
     }
