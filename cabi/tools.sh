@@ -13,7 +13,7 @@
 #                which comes with that cargo
 #   X86_CC       gcc-x86-64-linux-gnu and libc6-dev-amd64-cross: x86_64-linux-gnu-gcc
 #   X86_RUN      qemu-user and libc6:amd64: qemu-x86_64
-#   X86_COUNT    qemu-x86_64 -plugin, with a plugin that writes a line `insns N` to standard error; Debian has none
+#   X86_COUNT    the same, and the counter bench/insns.c, which says how it is built: qemu-x86_64 -plugin FOLDER/insns.so
 #   X86_OBJDUMP  binutils-x86-64-linux-gnu: x86_64-linux-gnu-objdump
 #
 # libcabi.a and the program dump are proved and built first, where those in target/ were not built from these very sources. To try others:
