@@ -12,10 +12,20 @@ use Rattle.refusal.specs.Answer.{Answer, gives}
 use Rattle.lv.specs.Rules.{span}
 use Rattle.walk.specs.Journal.{endAt}
 use Rattle.walk.specs.Rules.{limit, Standing, found, ended, front, stepAt}
+use Rattle.walk.specs.declared.End.{End}
 use Rattle.walk.specs.declared.End.the-variants.{Whole, Cut}
 use Rattle.walk.specs.declared.Record.{Record}
 use Rattle.walk.proofs.Steps.{says, step-long, step-past, step-there}
-use Rattle.cabi.specs.Boundary.{numbered, stepBy, stepAnswer, nextAnswer, stepOf, placeOf, behindOf}
+use Rattle.cabi.specs.Boundary.{numbered, stepBy, stepAnswer, nextAnswer, stepOf}
+
+-- the numbers of an end
+abbrev place : End → ℕ
+place (Whole q) = q
+place (Cut q behind) = q
+
+abbrev stump : End → ℕ
+stump (Whole q) = 0
+stump (Cut q behind) = behind
 
 module _ (s : List ℕ) (p : ℕ) where
   told-record : (r : Record) (next : ℕ) → front p (drop p s) ≡ found r next → r .value ≡ span (p + 2) (next - (p + 2))
@@ -24,8 +34,8 @@ module _ (s : List ℕ) (p : ℕ) where
       ap (λ (x : Record). x .value) is ∙ ap (span (p + 2)) (omega (arith, to))
 
   told-cut : (q behind : ℕ) (d : List ℕ) → Cut q behind ≡ endAt p d → length d ≡ length s - p → behind ≡ length s - q
-  told-cut q behind [] e n = let z : behind ≡ 0 = ap behindOf e in omega (arith, ap placeOf e)
-  told-cut q behind (b ∷ bs) e n = omega (arith, ap placeOf e, ap behindOf e)
+  told-cut q behind [] e n = let z : behind ≡ 0 = ap stump e in omega (arith, ap place e)
+  told-cut q behind (b ∷ bs) e n = omega (arith, ap place e, ap stump e)
 
   pub next-tells : stepAnswer (stepAt s p) ≡ stepOf (length s) p (nextAnswer (stepAt s p))
   next-tells = long (leb (length s) limit) refl

@@ -1,7 +1,7 @@
 // The library for C: each function is one call of the library, on numbers and lent bytes, and answers a struct by value. cabi/balunduwa.h declares
 // them again for C. An answer begins with a refusal, number 0 where there is none; behind it stands what the call gives, 0 where it refuses.
-// `NextAnswer` is otherwise. The readers, the writers and the steps return at once where they give a value, bytes or a record: so LLVM keeps that way
-// apart from the others and has nothing to move from one to another.
+// `NextAnswer` is otherwise. The plain readers, the writers and the steps return at once where they give a value, bytes or a record: so LLVM keeps that
+// way apart from the others and has nothing to move from one to another.
 mod answers;
 mod arguments;
 

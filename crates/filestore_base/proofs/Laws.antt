@@ -4,18 +4,18 @@ use Prim.Native.Nat.{ℕ, _+_, _-_, _*_, _≤_, _<_}
 use native.Mathlib.Omega.{arith}
 use mathlib.Core.Bool.{Bool, true, false, not, _&&_}
 use mathlib.Core.Option.{none}
-use mathlib.Core.List.{List, [], _∷_, _++_, append-assoc}
+use mathlib.Core.List.{List, [], _∷_, _++_}
 use native.Mathlib.Nat.{add-sub-cancel-left}
 use lib.ListN.{length, take, drop, set, length-append, length-set}
 use lib.Dec.{eqb}
 use borrow.Author.Tests.{eq-eqb, ne-eqb}
-use borrow.Rule.Slice.PartMut.{putMid, post-is, mid-len}
+use borrow.Rule.Slice.PartMut.{putMid, mid-len}
 use Rattle.bluebook.specs.Layouts.{lv, lvIf, there}
 use Rattle.refusal.specs.Answer.{Answer, gives, refuses, mapA, also, Test}
 use Rattle.refusal.proofs.Laws.{gives-same, also-refused, also-passed, also-both, also-mapped, limit-in, limit-passed}
 use Rattle.splice.specs.Laid.{laid, sameBytes}
 use Rattle.splice.specs.Writing.{roomAt, Wrote}
-use Rattle.splice.proofs.Laws.{laid-is, laid-all, laid-cons, laid-behind, laid-none}
+use Rattle.splice.proofs.Laws.{laid-cons, laid-part, laid-behind, laid-none}
 use Rattle.splice.proofs.Writing.{roomFor-in, roomFor-out, wrote, wrote-not, wrote-refused, wrote-passed, wrote-laid}
 use Rattle.lv.specs.Rules.{partOf, spanTest, sizeTest}
 use Rattle.lv.specs.Rules as lvs
@@ -128,12 +128,6 @@ fits s l src at n e h =
     let f : FitsIf (There l) src at n = subst (λ (x : SecondName). FitsIf x src at n) e h in
     (sound l src (f .0), f .1)
 
--- bytes as many as a part that was lent, put back, are laid
-put-mid : (a e : ℕ) (xs ys : List ℕ) → a ≤ e → length ys ≡ e - a → putMid a (e - a) xs ys ≡ laid a ys xs
-put-mid a e xs ys h k =
-    let n : e ≡ a + length ys = omega arith in
-    ap (λ (z : List ℕ). take a xs ++ (ys ++ z)) (post-is a e xs h ∙ ap (λ (m : ℕ). drop m xs) n) ∙ sym (laid-is a ys xs ∙ append-assoc (take a xs) ys (drop (a + length ys) xs))
-
 -- what is there is laid as an LV, the length byte and then the value, and what is absent changes nothing
 pub put-there : (s : SecondName) (l : Lv) (src old new : List ℕ) (at : ℕ) {told : Answer ℕ} → s ≡ There l → FitsIf s src at (length old)
     → (let d = set old at (l .len) in let part = take (at + 1 + l .len - (at + 1)) (drop (at + 1) d) in
@@ -147,9 +141,8 @@ put-there s l src old new at e h w =
     let p : v ≡ partOf l src = rw add-sub-cancel-left (sym (partOf-in l src (f .0 .inside))) in
     let n : length v ≡ l .len = ap length p ∙ f .0 .size in
     let k : length part ≡ l .len = mid-len (at + 1) (at + 1 + l .len) d (simp length-set (omega (arith, f .1))) ∙ add-sub-cancel-left _ _ in
-    let q : new ≡ v = wrote-laid 0 v part new (omega arith) w ∙ laid-all v part (n ∙ sym k) in
-    put-mid (at + 1) (at + 1 + l .len) d new (omega arith) (ap length q ∙ n ∙ sym (add-sub-cancel-left _ _))
-    ∙ ap (λ (z : List ℕ). laid (at + 1) z d) q
+    ap (putMid (at + 1) (at + 1 + l .len - (at + 1)) d) (wrote-laid 0 v part new (omega arith) w)
+    ∙ laid-part (at + 1) (at + 1 + l .len) v d (omega arith)
     ∙ laid-cons at (l .len) v old (omega (arith, f .1))
     ∙ (λ i. laid at (sym (f .0 .size) i ∷ p i) old)
     ∙ ap (λ (x : SecondName). laid at (lvIf (partIf x src)) old) (sym e)

@@ -8,9 +8,10 @@ use mathlib.Core.Logic.{_↔_}
 use mathlib.Core.Bool.{Bool, true, false, _&&_, and-true, and-false}
 use mathlib.Core.List.{List, [], _∷_, _++_, append-assoc, append-nil}
 use lib.ListN.{length, take, drop, getD, set, length-append, length-drop, take-append-drop, drop-of-length-le}
-use lib.Seq.{take-suc, take-suc-set, take-length, drop-set-lt, take-append-le, take-append-add, take-take, drop-append-add, drop-drop, length-take-le}
+use lib.Seq.{take-suc, take-suc-set, take-length, drop-set-lt, take-append-le, take-append-add, take-take, drop-append-le, drop-append-add, drop-drop, length-take-le}
 use lib.Dec.{eqb}
 use borrow.Author.Tests.{eq-eqb, ne-eqb, eqb-true}
+use borrow.Rule.Slice.PartMut.{putMid}
 use Rattle.splice.specs.Laid.{laid, sameBytes}
 
 -- ---- laid
@@ -50,6 +51,22 @@ laid-cons at x vs d h =
   where
     n : at + 1 + length vs ≡ at + suc (length vs)
     n = omega arith
+
+-- bytes laid at the front of a part that is lent, from p up to e, are laid over the whole from p on
+pub laid-part : (p e : ℕ) (vs d : List ℕ) → length vs ≤ length (take (e - p) (drop p d)) → putMid p (e - p) d (laid 0 vs (take (e - p) (drop p d))) ≡ laid p vs d
+laid-part p e vs d h =
+    ap (putMid p (e - p) d) (laid-front vs part)
+    ∙ ap (λ (l : List ℕ). take p d ++ l) (append-assoc vs (drop (length vs) part) behind ∙ ap (λ (l : List ℕ). vs ++ l) rest)
+    ∙ sym (laid-is p vs d ∙ append-assoc (take p d) vs (drop (p + length vs) d))
+  where
+    part : List ℕ
+    part = take (e - p) (drop p d)
+
+    behind : List ℕ
+    behind = drop (e - p) (drop p d)
+
+    rest : drop (length vs) part ++ behind ≡ drop (p + length vs) d
+    rest = sym (drop-append-le (length vs) part behind h) ∙ ap (drop (length vs)) (take-append-drop (e - p) (drop p d)) ∙ drop-drop (length vs) p d
 
 -- bytes laid behind bytes: together they are laid from the first on
 pub laid-behind : (at : ℕ) (p vs d : List ℕ) → at + length p + length vs ≤ length d → laid (at + length p) vs (laid at p d) ≡ laid at (p ++ vs) d
