@@ -37,15 +37,15 @@ time_calls() {
     done
 }
 
-# A line for each case: its number, its calls or records, its goal, the instructions of ours, the Rust and the Rust with LTO, its name. The times are
-# taken between the counts: so they lie far apart, and a while in which the machine is busy does not hit all of them.
+# A line for each case: its number, its calls or records, its goal, the instructions of ours, the Rust and the Rust with LTO, its name, its goal by time.
+# The times are taken between the counts: so they lie far apart, and a while in which the machine is busy does not hit all of them.
 measure_calls() {
     $X86_RUN "$programs/release.0" calls >"$room/cases"
-    while read -r number rounds per goal name; do
+    while read -r number rounds per goal time_goal name; do
         ours=$(count_calls release "$number" ours "$rounds")
         rust=$(count_calls release "$number" rust "$rounds")
         lto=$(count_calls lto "$number" rust "$rounds")
-        echo "$number|$((rounds * per))|$goal|$ours|$rust|$lto|$name"
+        echo "$number|$((rounds * per))|$goal|$ours|$rust|$lto|$name|$time_goal"
         [ -n "$untimed" ] || time_calls
     done <"$room/cases"
 }
@@ -62,7 +62,7 @@ table_of_calls() {
                 }
             }
         }
-        # A ratio, and a star where, as it is printed, it is above its goal: that of the case by instructions beside the Rust as it stands, else 1.
+        # A ratio, and a star where, as it is printed, it is above its goal: beside the Rust as it stands those of the case, else 1.
         function ratio(kind, ours, other, goal,   text) {
             if (ours == "") return "- "
             text = sprintf("%.3f", ours / other)
@@ -79,7 +79,7 @@ table_of_calls() {
         }
         {
             a = least["release " $1 " 1"]; b = least["release " $1 " 2"]; c = least["lto " $1 " 1"]; d = least["lto " $1 " 2"]
-            printf "| %-33s | %5.1f | %8.1f | %.2f | %6s | %7s |", $7, $4 / $2, $5 / $2, $3, ratio("calls", $4, $5, $3), ratio("time", a, b, 1)
+            printf "| %-33s | %5.1f | %8.1f | %.2f | %6s | %7s |", $7, $4 / $2, $5 / $2, $3, ratio("calls", $4, $5, $3), ratio("time", a, b, $8)
             printf " %5.1f | %6s | %7s |", $6 / $2, ratio("LTO", $4, $6, 1), ratio("LTO, time", c, d, 1)
             printf " %8s | %8s | %5s | %5s |\n", ns(a), ns(b), ns(c), ns(d)
         }

@@ -1,7 +1,7 @@
 //! The same inputs through the static library and through the Rust, in one program. bench/run builds it twice, calls it and makes the tables.
 //!
 //!   bench check              compares the two sides' answers, and the bytes that they write; status 1 where they differ
-//!   bench calls              a line for each case: its number, how many calls a count takes, how many records a call walks, the goal, the name
+//!   bench calls              a line for each case: its number, how many calls a count takes, how many records a call walks, its goals, its name
 //!   bench growth             the same for the walks of more and more records
 //!   bench run N SIDE ROUNDS  makes the calls of case N on the side ours or rust
 //!   bench times              a line for each of the calls: its number, and nanoseconds, ours and the Rust's, for a call or a record
@@ -40,7 +40,7 @@ fn check(cases: &[Case]) {
 fn tell(cases: &[Case], first: usize) {
     for (number, case) in (first..).zip(cases) {
         let rounds = if case.per == 1 { 2000 } else { 2 };
-        println!("{number} {rounds} {} {} {}", case.per, case.goal, case.name);
+        println!("{number} {rounds} {} {} {} {}", case.per, case.goal, case.time_goal, case.name);
     }
 }
 

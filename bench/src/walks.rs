@@ -17,6 +17,7 @@ pub fn walk(name: &'static str, (journal, count): Journal) -> Case {
     Case {
         name,
         goal: 1.0,
+        time_goal: 0.5,
         per: count,
         ours: side(
             journal,
@@ -67,7 +68,7 @@ pub fn steps(name: &'static str, (journal, count): Journal) -> Case {
         }
         (count, step.next)
     });
-    Case { name, goal: 1.0, per: count, ours, rust: by_reader(journal) }
+    Case { name, goal: 1.0, time_goal: 1.0, per: count, ours, rust: by_reader(journal) }
 }
 
 /// The same by the step that answers in registers. What black_box takes is a copy, so that the next place does not go through memory.
@@ -86,7 +87,7 @@ pub fn steps_in_registers(name: &'static str, (journal, count): Journal) -> Case
         }
         (count, step.next)
     });
-    Case { name, goal: 1.0, per: count, ours, rust: by_reader(journal) }
+    Case { name, goal: 1.0, time_goal: 1.0, per: count, ours, rust: by_reader(journal) }
 }
 
 /// Journals of more and more records with no value, up to the limit: what a record costs is to stay as it is.
