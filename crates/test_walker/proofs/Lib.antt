@@ -1,0 +1,3 @@
+-- The laws and theorems of this crate.
+pub mod Made
+pub mod Theorems
