@@ -1,16 +1,24 @@
-// Small steps on text that the test programs share: a digit's number, a part, the place of a byte, and room for bytes. They take any arguments.
+// Small steps on text that the test programs share: digits and numbers, lines, the notation of bytes, a checksum, and room for bytes.
+// They take any arguments.
 ghost use mathlib.Core.Path.{_≡_};
 ghost use Prim.Native.Nat.{_+_};
 ghost use lib.ListN.{length, drop, replicate};
-ghost use Rattle.test_text.specs.Text.{digit, stretch, before};
+ghost use Rattle.test_text.specs.Text.{digit, stretch, before, lineAt, nextLine, noCase, standsFor, ofRow, decimalOf, withDigit, sumOf};
 
-// The number of a hexadecimal digit, 0 to 9 or a to f; 16 for any other byte.
+// A number that was read, or none.
+pub enum Read {
+    Is(usize),
+    No,
+}
+
+// The number of a hexadecimal digit, 0 to 9, a to f or A to F; 16 for any other byte.
 pub fn nibble(x: u8) -> u8
     ensures { λ r. ⌜ r ≡ digit x ⌝ }
 {
     match x {
         b'0'..=b'9' => x - 48,
         b'a'..=b'f' => x - 87,
+        b'A'..=b'F' => x - 55,
         _ => 16,
     }
 }
@@ -40,6 +48,116 @@ pub fn find(s: &[u8], what: u8, from: usize) -> usize
         i += 1;
     }
     i
+}
+
+// The line that begins at a place, without its line end. A place past the end has no bytes.
+pub fn line(text: &[u8], at: usize) -> &[u8]
+    ensures { λ r. ⌜ now r ≡ lineAt at (now (text .entry)) ⌝ }
+{
+    part(text, at, find(text, b'\n', at))
+}
+
+// The place behind that line: behind its line end, or the end of the text. At the end of the text, and past it, the place itself.
+pub fn next_line(text: &[u8], at: usize) -> usize
+    ensures { λ r. ⌜ r ≡ nextLine at (now (text .entry)) ⌝ }
+{
+    let end = find(text, b'\n', at);
+    if end < text.len() {
+        return end + 1;
+    }
+    end
+}
+
+// Whether a line is no case: it is empty, or begins with a #.
+pub fn copied(line: &[u8]) -> bool
+    ensures { λ r. ⌜ r ≡ noCase (now (line .entry)) ⌝ }
+{
+    if line.len() == 0 {
+        return true;
+    }
+    line[0] == b'#'
+}
+
+// Whether a row's byte stands for a key's byte.
+fn stands_for(row: u8, key: u8) -> bool
+    ensures { λ r. ⌜ r ≡ standsFor row key ⌝ }
+{
+    if row == key {
+        return true;
+    }
+    match row {
+        b'N' => key == b'O' || key == b'A',
+        b'O' => key == b'A',
+        b'F' => key == b'T',
+        _ => false,
+    }
+}
+
+// Whether a call's key is of a row. Both are a name, and behind a space a letter for each word: the row's N stands for O and A too, its O for A
+// too, and its F for T too.
+pub fn is_row(key: &[u8], row: &[u8]) -> bool
+    ensures { λ r. ⌜ r ≡ ofRow (now (key .entry)) (now (row .entry)) ⌝ }
+{
+    if key.len() != row.len() {
+        return false;
+    }
+    let mut i: usize = 0;
+    while i < key.len() {
+        if !stands_for(row[i], key[i]) {
+            return false;
+        }
+        i += 1;
+    }
+    true
+}
+
+// A number with a decimal digit behind its digits. No for any other byte, and for more than usize::MAX.
+fn with_digit(x: usize, byte: u8) -> Read
+    ensures { λ r. ⌜ r ≡ withDigit x byte ⌝ }
+{
+    let digit = nibble(byte) as usize;
+    if 9 < digit {
+        return Read::No;
+    }
+    if (usize::MAX - digit) / 10 < x {
+        return Read::No;
+    }
+    Read::Is(x * 10 + digit)
+}
+
+// Decimal digits, one or more, as a number. No for any other text, and for more than usize::MAX.
+pub fn decimal(text: &[u8]) -> Read
+    ensures { λ r. ⌜ r ≡ decimalOf (now (text .entry)) ⌝ }
+{
+    if text.len() == 0 {
+        return Read::No;
+    }
+    let mut x: usize = 0;
+    let mut i: usize = 0;
+    while i < text.len() {
+        match with_digit(x, text[i]) {
+            Read::Is(y) => x = y,
+            Read::No => return Read::No,
+        }
+        i += 1;
+    }
+    Read::Is(x)
+}
+
+// The largest prime below two to the 32.
+const MODULUS: u64 = 4294967291;
+
+// A checksum with more bytes: each of them counts, and so does its place.
+pub fn checksum(before: u64, text: &[u8]) -> u64
+    ensures { λ r. ⌜ r ≡ sumOf before (now (text .entry)) ⌝ }
+{
+    let mut x = before % MODULUS;
+    let mut i: usize = 0;
+    while i < text.len() {
+        x = (x * 257 + text[i] as u64 + 1) % MODULUS;
+        i += 1;
+    }
+    x
 }
 
 // Room for 512 bytes, and for 66,000. The first clause is what lending the array as a slice needs.
