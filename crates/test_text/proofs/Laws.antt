@@ -103,15 +103,24 @@ before-within x (b ∷ bs) = go (eqb b x) (before-within x bs) where
 pub before-from : (x i : ℕ) (s : List ℕ) → i ≤ length s → i + before x (drop i s) ≤ length s
 before-from x i s h = omega (arith, before-within x (drop i s), length-drop i s)
 
+-- the part up to it
+pub stretch-before : (x i : ℕ) (s : List ℕ) → i ≤ length s → stretch i (i + before x (drop i s)) s ≡ take (before x (drop i s)) (drop i s)
+stretch-before x i s h =
+    let n : i + before x (drop i s) - i ≡ before x (drop i s) = omega arith in
+    stretch-in i (i + before x (drop i s)) s (before-from x i s h) ∙ ap (λ (k : ℕ). take k (drop i s)) n
+
+pub stretch-front : (x : ℕ) (s : List ℕ) → stretch 0 (before x s) s ≡ take (before x s) s
+stretch-front x s =
+    let n : before x s - 0 ≡ before x s = omega arith in
+    stretch-in 0 (before x s) s (before-within x s) ∙ ap (λ (k : ℕ). take k s) n
+
 -- ---- LINES
 
 pub line-in : (at : ℕ) (s : List ℕ) → stretch at (endAt at s) s ≡ lineAt at s
 unfolding lineAt
 line-in at s = go (leb at (length s)) refl where
   go : (t : Bool) → leb at (length s) ≡ t → stretch at (endAt at s) s ≡ lineAt at s
-  go true e =
-      let n : endAt at s - at ≡ before 10 (drop at s) = omega arith in
-      stretch-in at (endAt at s) s (before-from 10 at s (leb-true _ _ e)) ∙ ap (λ (k : ℕ). take k (drop at s)) n
+  go true e = stretch-before 10 at s (leb-true _ _ e)
   go false e =
       let h : length s < at = leb-false _ _ e in
       stretch-out at (endAt at s) s (omega arith) ∙ sym (ap (λ (l : List ℕ). take (before 10 (drop at s)) l) (drop-of-length-le s {i = at} (omega arith)) ∙ take-nil (before 10 (drop at s)))

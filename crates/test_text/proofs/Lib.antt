@@ -1,2 +1,3 @@
 -- The laws and theorems of this crate.
 pub mod Laws
+pub mod Reading

@@ -1,9 +1,12 @@
 // Small steps on text that the test programs share: digits and numbers, lines, the notation of bytes, a checksum, and room for bytes.
 // They take any arguments.
+mod notation;
+
 ghost use mathlib.Core.Path.{_≡_};
 ghost use Prim.Native.Nat.{_+_};
 ghost use lib.ListN.{length, drop, replicate};
 ghost use Rattle.test_text.specs.Text.{digit, stretch, before, lineAt, nextLine, noCase, standsFor, ofRow, decimalOf, withDigit, sumOf};
+ghost use Rattle.test_text.specs.Notation.{bytesOf, Left};
 
 // A number that was read, or none.
 pub enum Read {
@@ -142,6 +145,24 @@ pub fn decimal(text: &[u8]) -> Read
         i += 1;
     }
     Read::Is(x)
+}
+
+// Reads bytes that are written as an `x`, then pieces with a `.` between them. A piece is one or more pairs of hexadecimal digits, and behind
+// them, where it stands several times, `*COUNT`: x05.00*255, x0501aa.0500*3. Read::Is(n): the bytes are the first n of buf, and the rest of buf is as it was.
+// Read::No: the text is not in the notation, or has more bytes than buf has room for; buf may hold anything then.
+pub fn bytes(text: &[u8], buf: &mut [u8]) -> Read
+    ensures { λ r. ⌜ Left (bytesOf (now (text .entry))) 0 (now (buf .entry)) r (now (buf .exit)) ⌝ }
+{
+    if text.len() == 0 {
+        return Read::No;
+    }
+    if text[0] != b'x' {
+        return Read::No;
+    }
+    if text.len() == 1 {
+        return Read::Is(0);
+    }
+    notation::pieces(&text[1..], buf)
 }
 
 // The largest prime below two to the 32.
