@@ -1,3 +1,4 @@
 -- The laws and theorems of this crate.
 pub mod Laws
 pub mod Reading
+pub mod Examples

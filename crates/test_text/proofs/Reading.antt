@@ -3,10 +3,10 @@ use mathlib.Core.Path.{_≡_, refl, sym, ap, subst, _∙_}
 use Prim.Native.Nat.{ℕ, zero, suc, _+_, _-_, _*_, _≤_, _<_}
 use native.Mathlib.Omega.{arith}
 use native.Mathlib.Numerals.{add-one}
-use mathlib.Core.Bool.{Bool, true, false, cond, _&&_, and-false}
+use mathlib.Core.Bool.{Bool, true, false, cond, and-false}
 use mathlib.Core.List.{List, [], _∷_, _++_, append-assoc}
 use lib.ListN.{length, take, drop, getD, set, drop-of-length-le, length-drop, length-append, length-take, take-append-drop}
-use lib.Seq.{drop-cons, drop-drop, take-at, drop-at, take-length, take-all, length-take-le, set-split}
+use lib.Seq.{drop-cons, drop-drop, take-at, drop-at, set-split}
 use lib.Dec.{eqb, leb, ltb}
 use borrow.Author.Tests.{le-leb, lt-leb, eq-eqb, ne-eqb, leb-true, leb-false, ltb-true, ltb-false}
 use Rattle.test_text.specs.declared.Read.{Read}
@@ -108,6 +108,25 @@ left-within m at old n new h =
 pub left-length : (m : Bytes) (at : ℕ) (old : List ℕ) (r : Read) (new : List ℕ) → Left m at old r new → length new ≡ length old
 left-length m at old (Is n) new h = left-within m at old n new h .2
 left-length m at old No new h = left-no m at old new h .size
+
+-- What a caller needs to lend the first n bytes of its buffer.
+pub read-fits : (m : Bytes) (at : ℕ) (old : List ℕ) (r : Read) (new : List ℕ) (n : ℕ) → Left m at old r new → r ≡ Is n → (n ≤ length new) × (length new ≡ length old)
+read-fits m at old r new n h e =
+    let w = left-within m at old n new (subst (λ (x : Read). Left m at old x new) e h) in
+    (w .1, w .2)
+
+-- One answer only, and where it is Is one buffer.
+pub one-left : (m : Bytes) (at : ℕ) (old : List ℕ) (r q : Read) (new mew : List ℕ) → Left m at old r new → Left m at old q mew → (r ≡ q) × ((n : ℕ) → r ≡ Is n → new ≡ mew)
+unfolding Left LeftIf
+one-left none at old r q new mew h g =
+    let e = h .0 in
+    (h .0 ∙ sym (g .0), λ n f. (let z : _≡_ {A = ℕ} 0 1 = cc in absurd (omega arith)))
+one-left (these l) at old r q new mew h g = go (leb (at + length l) (length old)) h g where
+  go : (t : Bool) → LeftIf t l at old r new → LeftIf t l at old q mew → (r ≡ q) × ((n : ℕ) → r ≡ Is n → new ≡ mew)
+  go true h g = (h .0 ∙ sym (g .0), λ n f. h .1 ∙ sym (g .1))
+  go false h g =
+      let e = h .0 in
+      (h .0 ∙ sym (g .0), λ n f. (let z : _≡_ {A = ℕ} 0 1 = cc in absurd (omega arith)))
 
 -- ---- ONE TEXT BEHIND ANOTHER
 

@@ -3,7 +3,7 @@ use mathlib.Core.Path.{refl, sym, ap, _∙_}
 use native.Mathlib.Omega.{arith}
 use borrow.Rule.Slice.PartAt.{part-to-end}
 use Rattle.test_text.specs.Notation.{piecesOf}
-use Rattle.test_text.proofs.Reading.{left-as, left-not, left-none, left-length, bytes-none, bytes-other, bytes-x, bytes-pieces}
+use Rattle.test_text.proofs.Reading.{left-as, left-not, left-none, bytes-none, bytes-other, bytes-x, bytes-pieces}
 use borrow.Author.Needs.{needs}
 use Rattle.test_text.proofs.bytes.Statement.{statement}
 use Rattle.test_text.proofs.bytes.Tie as tie

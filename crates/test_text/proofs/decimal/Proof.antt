@@ -1,6 +1,6 @@
 -- `test_text::decimal` meets its contract: the number so far, with the digits still to be read, gives what all of them give. What is left of the
 -- bytes falls. Assumes nothing.
-use mathlib.Core.Path.{_≡_, sym, ap, _∙_}
+use mathlib.Core.Path.{_≡_, sym, _∙_}
 use native.Mathlib.Omega.{arith}
 use Prim.Native.Nat.{_+_, _-_, _≤_}
 use lib.ListN.{length, drop}

@@ -1,6 +1,5 @@
 -- `test_text::next_line` meets its contract, by the cases of `nextLine`. Assumes nothing.
 use native.Mathlib.Omega.{arith}
-use mathlib.Core.Path.{sym}
 use Rattle.test_text.proofs.Laws.{next-ended, next-last}
 use borrow.Author.Needs.{needs}
 use Rattle.test_text.proofs.next_line.Statement.{statement}

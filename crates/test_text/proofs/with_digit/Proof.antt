@@ -1,6 +1,6 @@
 -- `test_text::with_digit` meets its contract, by its cases: no digit, a number that is too large, and the number. Assumes nothing.
 use native.Mathlib.Omega.{arith}
-use mathlib.Core.Path.{_≡_, sym, ap, _∙_}
+use mathlib.Core.Path.{sym, ap, _∙_}
 use Prim.Native.Nat.{ℕ, _+_, _*_}
 use Rattle.test_text.specs.declared.Read.the-variants.{Is}
 use Rattle.test_text.proofs.Laws.{digit-bad, digit-large, digit-on}

@@ -2,7 +2,7 @@
 -- left of the text falls. Assumes nothing.
 use native.Mathlib.Omega.{arith}
 use mathlib.Core.Path.{_≡_, refl, sym, ap, _∙_}
-use Prim.Native.Nat.{_+_, _-_, _≤_, _<_}
+use Prim.Native.Nat.{_-_}
 use lib.ListN.{length, drop}
 use Rattle.test_text.specs.Notation.{pairsOf, isBytes}
 use Rattle.test_text.proofs.Reading.{pairs-end, pairs-odd, are-high, are-low, are-both}

@@ -1,6 +1,6 @@
 -- `test_text::notation::count` meets its contract, by the cases of `countOf`. Assumes nothing.
 use native.Mathlib.Omega.{arith}
-use mathlib.Core.Path.{_≡_, sym, ap, _∙_}
+use mathlib.Core.Path.{sym, ap, _∙_}
 use Prim.Native.Nat.{_+_}
 use borrow.Rule.Slice.PartAt.{part-to-end}
 use Rattle.test_text.specs.Text.{decimalOf}

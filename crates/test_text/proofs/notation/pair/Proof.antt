@@ -1,12 +1,11 @@
 -- `test_text::notation::pair` meets its contract: each digit is one, and there is room for the byte; or else the answer is No. Assumes nothing.
 use native.Mathlib.Omega.{arith}
-use mathlib.Core.Path.{_≡_, refl, sym, ap, subst, _∙_}
-use Prim.Native.Nat.{ℕ, _+_, _*_, _≤_, _<_}
-use mathlib.Core.List.{List, [], _∷_}
-use lib.ListN.{length, set}
-use Rattle.test_text.specs.declared.Read.the-variants.{Is, No}
+use mathlib.Core.Path.{_≡_, refl, ap, _∙_}
+use Prim.Native.Nat.{ℕ, _+_, _*_}
+use mathlib.Core.List.{[], _∷_}
+use lib.ListN.{set}
+use Rattle.test_text.specs.declared.Read.the-variants.{Is}
 use Rattle.test_text.specs.Text.{digit}
-use Rattle.test_text.specs.Notation.{these}
 use Rattle.test_text.proofs.Reading.{left-as, left-not, left-full, left-these, pair-high, pair-low, pair-both, set-laid}
 use borrow.Author.Needs.{needs}
 use Rattle.test_text.proofs.notation.pair.Statement.{statement}

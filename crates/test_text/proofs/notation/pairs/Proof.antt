@@ -1,8 +1,8 @@
 -- `test_text::notation::pairs` meets its contract: what the pairs from i on leave behind the bytes so far, all of them leave. What is left of the
 -- text falls. Assumes nothing.
 use native.Mathlib.Omega.{arith}
-use mathlib.Core.Path.{_≡_, refl, sym, ap, _∙_}
-use Prim.Native.Nat.{_+_, _-_, _≤_, _<_}
+use mathlib.Core.Path.{refl, _∙_}
+use Prim.Native.Nat.{_-_}
 use lib.ListN.{length, drop}
 use Rattle.test_text.specs.Notation.{pairsOf}
 use Rattle.test_text.proofs.Reading.{Reads, reads-start, reads-on, reads-stop, reads-not, reads-end, left-length, pairs-end, pairs-odd, pairs-at}

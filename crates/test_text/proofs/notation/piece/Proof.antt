@@ -2,14 +2,14 @@
 -- often as the count says. Assumes nothing.
 use native.Mathlib.Omega.{arith}
 use mathlib.Core.Path.{_≡_, refl, sym, ap, _∙_}
-use Prim.Native.Nat.{ℕ, _+_, _-_, _≤_, _<_}
+use Prim.Native.Nat.{ℕ}
 use mathlib.Core.List.{List}
-use lib.ListN.{take, drop}
+use lib.ListN.{drop}
 use borrow.Author.Tests.{not-true, not-false}
 use Rattle.test_text.specs.Text.{before, stretch}
 use Rattle.test_text.specs.Notation.{isBytes, pairsOf, timesOf, countOf}
 use Rattle.test_text.proofs.Laws.{stretch-front}
-use Rattle.test_text.proofs.Reading.{left-as, left-not, left-length, piece-empty, piece-not, piece-uncounted, piece-counted}
+use Rattle.test_text.proofs.Reading.{left-as, left-not, piece-empty, piece-not, piece-uncounted, piece-counted}
 use borrow.Author.Needs.{needs}
 use Rattle.test_text.proofs.notation.piece.Statement.{statement}
 use Rattle.test_text.proofs.notation.piece.Tie as tie

@@ -1,14 +1,13 @@
 -- `test_text::notation::pieces` meets its contract: what the pieces from i on leave behind the bytes so far, all of them leave. What is left of the
 -- text falls. Assumes nothing.
 use native.Mathlib.Omega.{arith}
-use mathlib.Core.Path.{_≡_, refl, sym, ap, _∙_}
-use Prim.Native.Nat.{ℕ, _+_, _-_, _≤_, _<_}
-use mathlib.Core.List.{List}
-use lib.ListN.{length, drop}
-use Rattle.test_text.specs.Text.{before, stretch}
-use Rattle.test_text.specs.Notation.{piecesOf, pieceOf}
-use Rattle.test_text.proofs.Laws.{before-from, stretch-before}
-use Rattle.test_text.proofs.Reading.{Reads, reads-start, reads-on, reads-stop, reads-end, left-as, left-length, fromOn, from-start, from-step, from-end}
+use mathlib.Core.Path.{_∙_}
+use Prim.Native.Nat.{_+_, _-_}
+use lib.ListN.{length}
+use Rattle.test_text.specs.Text.{before}
+use Rattle.test_text.specs.Notation.{piecesOf}
+use Rattle.test_text.proofs.Laws.{before-from}
+use Rattle.test_text.proofs.Reading.{Reads, reads-start, reads-on, reads-stop, reads-end, left-length, fromOn, from-start, from-step, from-end}
 use borrow.Author.Needs.{needs}
 use Rattle.test_text.proofs.notation.pieces.Statement.{statement}
 use Rattle.test_text.proofs.notation.pieces.Tie as tie

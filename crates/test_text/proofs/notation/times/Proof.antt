@@ -1,8 +1,7 @@
 -- `test_text::notation::times` meets its contract: what is left behind the bytes so far by the times still to come, all of them leave. The times
 -- still to come fall. Assumes nothing.
 use native.Mathlib.Omega.{arith}
-use mathlib.Core.Path.{_≡_, refl, sym, ap, _∙_}
-use Prim.Native.Nat.{_+_, _-_, _≤_, _<_}
+use mathlib.Core.Path.{refl, _∙_}
 use Rattle.test_text.specs.Notation.{pairsOf, timesOf}
 use Rattle.test_text.proofs.Reading.{Reads, reads-start, reads-on, reads-stop, reads-end, left-length, times-none, times-on}
 use borrow.Author.Needs.{needs}
