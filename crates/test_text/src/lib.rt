@@ -14,14 +14,13 @@ pub enum Read {
     No,
 }
 
-// The number of a hexadecimal digit, 0 to 9, a to f or A to F; 16 for any other byte.
+// The number of a hexadecimal digit, 0 to 9 or a to f; 16 for any other byte.
 pub fn nibble(x: u8) -> u8
     ensures { λ r. ⌜ r ≡ digit x ⌝ }
 {
     match x {
         b'0'..=b'9' => x - 48,
         b'a'..=b'f' => x - 87,
-        b'A'..=b'F' => x - 55,
         _ => 16,
     }
 }
