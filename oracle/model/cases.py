@@ -1,6 +1,6 @@
 """Cases: lines of calls, each written back with the answers that document 01 and docs/DECISIONS.md give. The table ROWS has every call.
 
-The form of a case is described in crates/test_replay/src/main.rt.
+docs/TESTS.md describes the form of a case.
 """
 
 from model import filestore, formats, ground, journal
@@ -10,7 +10,7 @@ from model.ground import Refused
 
 CHECKSUM = 4294967291
 
-# A letter of the table: which words it takes, by their readers, and what it makes of them. W is the line's walker, and takes no word.
+# A letter of the table: which words it takes, by their readers, and what it makes of them. The states take no word: each is made new for a line.
 WORDS = {
     "N": n.number,
     "O": n.octet,
@@ -29,6 +29,7 @@ VALUES = {
     "R": ("AONNMNN", lambda action, status, a, b, second, c, d: filestore.Filed(action, status, Lv(a, b), second, Lv(c, d))),
     "J": ("NONN", lambda place, type_byte, start, length: journal.Record(place, type_byte, Lv(start, length))),
 }
+STATES = {"W": journal.Walker}
 SIMPLE = {letter: VALUES.get(letter, (letter, None))[0] for letter in [*WORDS, *VALUES]}
 
 
@@ -199,7 +200,7 @@ ROWS = (
     ("response.has_second_filename", "A", n.yes_text, filestore.has_second),
     ("response.status_code", "R", str, lambda filed: filed.status),
     ("response.filestore_message", "R", n.span_text, lambda filed: filed.message),
-    ("splice.put", "BNX", n.written_text, ground.put),
+    ("splice.put", "NXB", n.written_text, lambda place, data, buffer: ground.put(buffer, place, data)),
     ("splice.same", "XX", n.same_text, lambda data, other: data == other),
     ("number.read", "X", n.number_text, ground.number_read),
     ("number.test", "NN", n.test_text, ground.number_test),
@@ -224,14 +225,20 @@ ROWS = (
 TABLE = {name: row for name, *row in ROWS}
 
 
-def taken(letters, words, walker):
+def calls():
+    """The calls, one a line: the name, and behind a space a letter for each of its words."""
+    words = {name: "".join(SIMPLE[letter] for letter in letters.replace("B", "X") if letter not in STATES) for name, letters, *_ in ROWS}
+    return "".join(f"{name} {letters}".rstrip() + "\n" for name, letters in words.items())
+
+
+def taken(letters, words, states):
     """What a call takes, made of its words."""
-    if len(words) != sum(len(SIMPLE[letter]) for letter in letters if letter != "W"):
+    if len(words) != sum(len(SIMPLE[letter]) for letter in letters if letter not in STATES):
         raise n.BadCase
     rest, values = iter(words), []
     for letter in letters:
-        if letter == "W":
-            values.append(walker)
+        if letter in STATES:
+            values.append(states[letter])
         elif letter in VALUES:
             simple, make = VALUES[letter]
             values.append(make(*[WORDS[each](next(rest)) for each in simple]))
@@ -240,14 +247,14 @@ def taken(letters, words, walker):
     return values
 
 
-def answer(call, walker):
+def answer(call, states):
     """The answer of one call. Behind a writer's stands the buffer as it is then."""
     name, *words = call.split(" ")
     if name not in TABLE:
         return "bad case"
     letters, text, rule = TABLE[name]
     try:
-        values = taken(letters, words, walker)
+        values = taken(letters, words, states)
     except n.BadCase:
         return "bad case"
     answered = told(text, rule, *values)
@@ -255,11 +262,11 @@ def answer(call, walker):
 
 
 def answered_line(line):
-    """A line with its answers. The walker is new in each line."""
+    """A line with its answers: calls with a semicolon between them, each with a space before it that does not count. The states are new in each line."""
     if line == "" or line.startswith("#"):
         return line
-    walker = journal.Walker()
-    return "; ".join(f"{call} = {answer(call, walker)}" for call in line.split("; "))
+    states = {letter: make() for letter, make in STATES.items()}
+    return ";".join(f"{call} = {answer(call.removeprefix(' '), states)}" for call in line.split(";"))
 
 
 def answered(text):

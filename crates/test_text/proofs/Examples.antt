@@ -22,7 +22,7 @@ use Rattle.test_text.specs.Text.{
   sumOn,
   sumOf,
 }
-use Rattle.test_text.specs.Notation.{these, none, either, then, hex, pairOf, pairsOf, timesOf, counted, countOf, pieceAt, pieceOf, onFirst, split, allOf, piecesOf, bytesOf}
+use Rattle.test_text.specs.Notation.{these, none, either, then, pairOf, pairsOf, timesOf, counted, countOf, pieceAt, pieceOf, onFirst, split, allOf, piecesOf, bytesOf}
 
 abbrev ascii : String → List ℕ
 ascii []ˢ = []
@@ -57,9 +57,9 @@ unfolding sumOf sumOn
 sums = (refl, refl)
 
 said : (bytesOf (ascii "x") ≡ these []) × (bytesOf (ascii "x05.00*3") ≡ these (5 ∷ 0 ∷ 0 ∷ 0 ∷ [])) × (bytesOf (ascii "x0501aA.0500*2") ≡ these (5 ∷ 1 ∷ 170 ∷ 5 ∷ 0 ∷ 5 ∷ 0 ∷ [])) × (bytesOf (ascii "x05.00*0.ff") ≡ these (5 ∷ 255 ∷ []))
-unfolding bytesOf piecesOf allOf split onFirst pieceOf pieceAt countOf counted timesOf pairsOf pairOf hex then either before digit decimalOf numberOn number digits pick
+unfolding bytesOf piecesOf allOf split onFirst pieceOf pieceAt countOf counted timesOf pairsOf pairOf then either before digit decimalOf numberOn number digits pick
 said = (refl, refl, refl, refl)
 
 unsaid : (bytesOf [] ≡ none) × (bytesOf (ascii "05") ≡ none) × (bytesOf (ascii "x0") ≡ none) × (bytesOf (ascii "x05.") ≡ none) × (bytesOf (ascii "x*3") ≡ none) × (bytesOf (ascii "x05*") ≡ none) × (bytesOf (ascii "x0g*0") ≡ none) × (bytesOf (ascii "x05*2*2") ≡ none)
-unfolding bytesOf piecesOf allOf split onFirst pieceOf pieceAt countOf counted timesOf pairsOf pairOf hex then either before digit decimalOf numberOn number digits pick
+unfolding bytesOf piecesOf allOf split onFirst pieceOf pieceAt countOf counted timesOf pairsOf pairOf then either before digit decimalOf numberOn number digits pick
 unsaid = (refl, refl, refl, refl, refl, refl, refl, refl)

@@ -40,17 +40,28 @@ pub digit-letter : (x : ℕ) → 97 ≤ x → x ≤ 102 → digit x ≡ x - 87
 unfolding digit
 digit-letter x h k = simp (le-leb 48 x (omega arith), lt-leb x 57 (omega arith), le-leb 97 x h, le-leb x 102 k)
 
+pub digit-capital : (x : ℕ) → 65 ≤ x → x ≤ 70 → digit x ≡ x - 55
+unfolding digit
+digit-capital x h k =
+    simp (le-leb 48 x (omega arith), lt-leb x 57 (omega arith), lt-leb 97 x (omega arith), le-leb 65 x h, le-leb x 70 k)
+
 pub digit-below : (x : ℕ) → x < 48 → digit x ≡ 16
 unfolding digit
-digit-below x h = simp (lt-leb 48 x h, lt-leb 97 x (omega arith))
+digit-below x h = simp (lt-leb 48 x h, lt-leb 97 x (omega arith), lt-leb 65 x (omega arith))
 
-pub digit-between : (x : ℕ) → 57 < x → x < 97 → digit x ≡ 16
+pub digit-between : (x : ℕ) → 57 < x → x < 65 → digit x ≡ 16
 unfolding digit
-digit-between x h k = simp (le-leb 48 x (omega arith), lt-leb x 57 h, lt-leb 97 x k)
+digit-between x h k = simp (le-leb 48 x (omega arith), lt-leb x 57 h, lt-leb 97 x (omega arith), lt-leb 65 x k)
+
+pub digit-behind : (x : ℕ) → 70 < x → x < 97 → digit x ≡ 16
+unfolding digit
+digit-behind x h k =
+    simp (le-leb 48 x (omega arith), lt-leb x 57 (omega arith), lt-leb 97 x k, le-leb 65 x (omega arith), lt-leb x 70 h)
 
 pub digit-above : (x : ℕ) → 102 < x → digit x ≡ 16
 unfolding digit
-digit-above x h = simp (le-leb 48 x (omega arith), lt-leb x 57 (omega arith), le-leb 97 x (omega arith), lt-leb x 102 h)
+digit-above x h =
+    simp (le-leb 48 x (omega arith), lt-leb x 57 (omega arith), le-leb 97 x (omega arith), lt-leb x 102 h, le-leb 65 x (omega arith), lt-leb x 70 (omega arith))
 
 -- ---- A PART
 

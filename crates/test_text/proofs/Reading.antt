@@ -20,7 +20,6 @@ use Rattle.test_text.specs.Notation.{
   either,
   then,
   isBytes,
-  hex,
   pairOf,
   pairsOf,
   timesOf,
@@ -246,29 +245,17 @@ module _ (rest : Bytes) (n : ℕ) (buf : List ℕ) (whole : Bytes) (at : ℕ) (o
 
 -- ---- PAIRS OF DIGITS
 
-pub hex-capital : (x : ℕ) → 65 ≤ x → x ≤ 70 → hex x ≡ x - 55
-unfolding hex
-hex-capital x h k = simp (le-leb 65 x h, le-leb x 70 k)
-
-pub hex-below : (x : ℕ) → x < 65 → hex x ≡ digit x
-unfolding hex
-hex-below x h = simp (lt-leb 65 x h)
-
-pub hex-above : (x : ℕ) → 70 < x → hex x ≡ digit x
-unfolding hex
-hex-above x h = simp (le-leb 65 x (omega arith), lt-leb x 70 h)
-
-pub pair-high : (a b : ℕ) → 15 < hex a → pairOf a b ≡ none
+pub pair-high : (a b : ℕ) → 15 < digit a → pairOf a b ≡ none
 unfolding pairOf either
-pair-high a b h = simp (lt-leb (hex a) 15 h)
+pair-high a b h = simp (lt-leb (digit a) 15 h)
 
-pub pair-low : (a b : ℕ) → 15 < hex b → pairOf a b ≡ none
+pub pair-low : (a b : ℕ) → 15 < digit b → pairOf a b ≡ none
 unfolding pairOf either
-pair-low a b h = rw (lt-leb (hex b) 15 h, and-false (leb (hex a) 15))
+pair-low a b h = rw (lt-leb (digit b) 15 h, and-false (leb (digit a) 15))
 
-pub pair-both : (a b : ℕ) → hex a ≤ 15 → hex b ≤ 15 → pairOf a b ≡ these ((hex a * 16 + hex b) ∷ [])
+pub pair-both : (a b : ℕ) → digit a ≤ 15 → digit b ≤ 15 → pairOf a b ≡ these ((digit a * 16 + digit b) ∷ [])
 unfolding pairOf either
-pair-both a b h k = simp (le-leb (hex a) 15 h, le-leb (hex b) 15 k)
+pair-both a b h k = simp (le-leb (digit a) 15 h, le-leb (digit b) 15 k)
 
 pub set-laid : (at v : ℕ) (old : List ℕ) → at < length old → set old at v ≡ laid at (v ∷ []) old
 set-laid at v old h = set-split old at v h ∙ sym (laid-as at (v ∷ []) old ∙ rw (add-one at))
@@ -298,13 +285,13 @@ is-then k none = refl
 is-then k (these l) = refl
 
 module _ (i : ℕ) (s : List ℕ) (h : i + 1 < length s) where
-  pub are-high : 15 < hex (getD s i 0) → isBytes (pairsOf (drop i s)) ≡ false
+  pub are-high : 15 < digit (getD s i 0) → isBytes (pairsOf (drop i s)) ≡ false
   are-high k = rw (pairs-at i s h, pair-high (getD s i 0) (getD s (i + 1) 0) k) (is-not (pairsOf (drop (i + 2) s)))
 
-  pub are-low : 15 < hex (getD s (i + 1) 0) → isBytes (pairsOf (drop i s)) ≡ false
+  pub are-low : 15 < digit (getD s (i + 1) 0) → isBytes (pairsOf (drop i s)) ≡ false
   are-low k = rw (pairs-at i s h, pair-low (getD s i 0) (getD s (i + 1) 0) k) (is-not (pairsOf (drop (i + 2) s)))
 
-  pub are-both : hex (getD s i 0) ≤ 15 → hex (getD s (i + 1) 0) ≤ 15 → isBytes (pairsOf (drop i s)) ≡ isBytes (pairsOf (drop (i + 2) s))
+  pub are-both : digit (getD s i 0) ≤ 15 → digit (getD s (i + 1) 0) ≤ 15 → isBytes (pairsOf (drop i s)) ≡ isBytes (pairsOf (drop (i + 2) s))
   are-both k m = rw (pairs-at i s h, pair-both (getD s i 0) (getD s (i + 1) 0) k m) (is-then _ (pairsOf (drop (i + 2) s)))
 
 -- ---- A PIECE

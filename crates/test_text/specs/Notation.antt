@@ -1,7 +1,7 @@
 -- The notation of bytes: an `x`, then pieces with a `.` between them. A piece is one or more pairs of hexadecimal digits, and behind them, where the
 -- piece stands several times, `*COUNT`.
 use mathlib.Core.Path.{_≡_}
-use Prim.Native.Nat.{ℕ, zero, suc, _+_, _-_, _*_}
+use Prim.Native.Nat.{ℕ, zero, suc, _+_, _*_}
 use mathlib.Core.Bool.{Bool, true, false, cond, _&&_}
 use mathlib.Core.List.{List, [], _∷_, _++_}
 use lib.ListN.{length, take, drop}
@@ -30,13 +30,9 @@ unfoldable pub isBytes : Bytes → Bool
 isBytes none = false
 isBytes (these l) = true
 
--- the number of a hexadecimal digit, where A to F are digits too; 16 for any other byte
-unfoldable pub hex : ℕ → ℕ
-hex x = cond (leb 65 x && leb x 70) (x - 55) (digit x)
-
 -- two hexadecimal digits
 unfoldable pub pairOf : ℕ → ℕ → Bytes
-pairOf a b = either (leb (hex a) 15 && leb (hex b) 15) (these ((hex a * 16 + hex b) ∷ [])) none
+pairOf a b = either (leb (digit a) 15 && leb (digit b) 15) (these ((digit a * 16 + digit b) ∷ [])) none
 
 unfoldable pub pairsOf : List ℕ → Bytes
 pairsOf [] = these []

@@ -7,9 +7,12 @@ use lib.Dec.{eqb, leb, ltb}
 use Rattle.test_text.specs.declared.Read.{Read}
 use Rattle.test_text.specs.declared.Read.the-variants.{Is, No}
 
--- the number of a hexadecimal digit, 0 to 9 or a to f; 16 for any other byte
+-- the number of a hexadecimal digit, 0 to 9, a to f or A to F; 16 for any other byte
 unfoldable pub digit : ℕ → ℕ
-digit x = cond (leb 48 x && leb x 57) (x - 48) (cond (leb 97 x && leb x 102) (x - 87) 16)
+digit x =
+    cond (leb 48 x && leb x 57)
+    (x - 48)
+    (cond (leb 97 x && leb x 102) (x - 87) (cond (leb 65 x && leb x 70) (x - 55) 16))
 
 -- the bytes from `start` up to `end`, none where they pass the end of s
 unfoldable pub stretch : ℕ → ℕ → List ℕ → List ℕ

@@ -1,4 +1,4 @@
-// Small steps on text that the test programs share: digits and numbers, lines, the notation of bytes, a checksum, and room for bytes.
+// Small steps on text that the test programs share: digits and numbers, lines, the notation of bytes, rows, a checksum, and room for bytes.
 // They take any arguments.
 mod notation;
 
@@ -14,13 +14,14 @@ pub enum Read {
     No,
 }
 
-// The number of a hexadecimal digit, 0 to 9 or a to f; 16 for any other byte.
+// The number of a hexadecimal digit, 0 to 9, a to f or A to F; 16 for any other byte.
 pub fn nibble(x: u8) -> u8
     ensures { λ r. ⌜ r ≡ digit x ⌝ }
 {
     match x {
         b'0'..=b'9' => x - 48,
         b'a'..=b'f' => x - 87,
+        b'A'..=b'F' => x - 55,
         _ => 16,
     }
 }
@@ -113,6 +114,13 @@ pub fn is_row(key: &[u8], row: &[u8]) -> bool
     true
 }
 
+// Whether a key begins so.
+pub fn begins(key: &[u8], front: &[u8]) -> bool
+    ensures { λ r. ⌜ r ≡ ofRow (stretch 0 (length (now (front .entry))) (now (key .entry))) (now (front .entry)) ⌝ }
+{
+    is_row(part(key, 0, front.len()), front)
+}
+
 // A number with a decimal digit behind its digits. No for any other byte, and for more than usize::MAX.
 fn with_digit(x: usize, byte: u8) -> Read
     ensures { λ r. ⌜ r ≡ withDigit x byte ⌝ }
@@ -180,17 +188,24 @@ pub fn checksum(before: u64, text: &[u8]) -> u64
     x
 }
 
-// Room for 512 bytes, and for 66,000. The first clause is what lending the array as a slice needs.
-pub fn short_room() -> [u8; 512]
-    ensures { λ r. ⌜ 512 ≡ length r ⌝ }
-    ensures { λ r. ⌜ r ≡ replicate 512 0 ⌝ }
-{
-    [0; 512]
-}
-
+// Room for 66,000 bytes. The first clause is what lending the array as a slice needs.
 pub fn room() -> [u8; 66000]
     ensures { λ r. ⌜ 66000 ≡ length r ⌝ }
     ensures { λ r. ⌜ r ≡ replicate 66000 0 ⌝ }
 {
     [0; 66000]
+}
+
+// The last nine numbers of a call, in order: a call with two numbers has them in n8 and n9. A type field is one number, 256 and more for a custom label, and a second
+// name is three: 1 where it is there, its start and its length.
+pub struct Words {
+    pub n1: usize,
+    pub n2: usize,
+    pub n3: usize,
+    pub n4: usize,
+    pub n5: usize,
+    pub n6: usize,
+    pub n7: usize,
+    pub n8: usize,
+    pub n9: usize,
 }

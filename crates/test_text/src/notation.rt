@@ -7,27 +7,14 @@ use crate::part;
 ghost use mathlib.Core.Path.{_≡_};
 ghost use Prim.Native.Nat.{_≤_};
 ghost use lib.ListN.{length, drop};
-ghost use Rattle.test_text.specs.Notation.{hex, pairOf, pairsOf, isBytes, timesOf, countOf, pieceOf, piecesOf, Left};
-
-// The number of a hexadecimal digit, where A to F are digits too; 16 for any other byte.
-fn digit(x: u8) -> u8
-    ensures { λ r. ⌜ r ≡ hex x ⌝ }
-{
-    if x < b'A' {
-        return nibble(x);
-    }
-    if b'F' < x {
-        return nibble(x);
-    }
-    x - 55
-}
+ghost use Rattle.test_text.specs.Notation.{pairOf, pairsOf, isBytes, timesOf, countOf, pieceOf, piecesOf, Left};
 
 // Stores the byte that two hexadecimal digits say.
 fn pair(high: u8, low: u8, buf: &mut [u8], at: usize) -> Read
     ensures { λ r. ⌜ Left (pairOf high low) at (now (buf .entry)) r (now (buf .exit)) ⌝ }
 {
-    let a = digit(high);
-    let b = digit(low);
+    let a = nibble(high);
+    let b = nibble(low);
     if 15 < a {
         return Read::No;
     }
@@ -70,10 +57,10 @@ fn are_pairs(text: &[u8]) -> bool
         if text.len() - i < 2 {
             return false;
         }
-        if 15 < digit(text[i]) {
+        if 15 < nibble(text[i]) {
             return false;
         }
-        if 15 < digit(text[i + 1]) {
+        if 15 < nibble(text[i + 1]) {
             return false;
         }
         i += 2;

@@ -1,6 +1,7 @@
 //! A case: the name of a call and its arguments, read from a line.
+use crate::model;
 use crate::notation::{self, Field};
-use std::collections::HashMap;
+use std::collections::BTreeMap;
 use std::sync::OnceLock;
 
 /// An argument, by its letter in the list of calls.
@@ -18,21 +19,47 @@ pub struct Case {
     pub args: Vec<Arg>,
 }
 
-/// The calls with the letters of their arguments, as replay's own list has them, without the first letter, the type of the answer.
-pub fn calls() -> &'static HashMap<&'static str, &'static str> {
-    static CALLS: OnceLock<HashMap<&str, &str>> = OnceLock::new();
+/// The sources of replay that have rows: a row is a call's name and, behind a space, a letter for each of its arguments.
+const SOURCES: [&str; 11] = [
+    include_str!("../../../crates/test_formats/src/entity_rows.rt"),
+    include_str!("../../../crates/test_formats/src/ground_rows.rt"),
+    include_str!("../../../crates/test_formats/src/lv_rows.rt"),
+    include_str!("../../../crates/test_formats/src/tlv_rows.rt"),
+    include_str!("../../../crates/test_formats/src/writers.rt"),
+    include_str!("../../../crates/test_filestore/src/action_rows.rt"),
+    include_str!("../../../crates/test_filestore/src/request_rows.rt"),
+    include_str!("../../../crates/test_filestore/src/response_rows.rt"),
+    include_str!("../../../crates/test_filestore/src/writers.rt"),
+    include_str!("../../../crates/test_journal/src/lib.rt"),
+    include_str!("../../../crates/test_lines/src/walker_rows.rt"),
+];
+
+/// The calls with the letters of their arguments, as replay's own rows have them.
+pub fn calls() -> &'static BTreeMap<&'static str, &'static str> {
+    static CALLS: OnceLock<BTreeMap<&str, &str>> = OnceLock::new();
     CALLS.get_or_init(|| {
-        let source = include_str!("../../../crates/replay_lines/src/names.rt");
-        let list = source.split("b\"").nth(1).and_then(|s| s.split('"').next());
-        let list: &'static str = list.expect("the list of the calls").replace("\\\n", "").leak();
-        list.split('|').filter_map(|entry| entry.split_once(' ')).map(|(name, letters)| (name, &letters[1..])).collect()
+        let rows = SOURCES.iter().flat_map(|source| source.split("is_row(key, b\"").skip(1)).filter_map(|row| row.split('"').next());
+        rows.map(|row| row.split_once(' ').unwrap_or((row, ""))).collect()
     })
+}
+
+/// Whether the model has these calls and no others, with the same arguments: so a source above that is missing is noticed.
+pub fn consistent() -> Result<(), String> {
+    let mut theirs = model::calls()?;
+    for (call, letters) in calls() {
+        match theirs.remove(*call) {
+            Some(others) if others == *letters => {}
+            Some(others) => return Err(format!("{call} takes '{letters}' by its row, and '{others}' by the model")),
+            None => return Err(format!("{call} has a row, and the model has it not")),
+        }
+    }
+    theirs.keys().next().map_or(Ok(()), |call| Err(format!("the model has {call}, and the sources in oracle/answers/src/case.rs have no row of it")))
 }
 
 fn arg(letter: char, word: &str) -> Option<Arg> {
     let below = |limit: usize| notation::number(word).filter(|x| *x < limit).map(Arg::Number);
     match letter {
-        'S' | 'B' => notation::bytes(word).map(Arg::Bytes),
+        'X' => notation::bytes(word).map(Arg::Bytes),
         'N' => notation::number(word).map(Arg::Number),
         'O' => below(256),
         'A' => below(9),
@@ -44,7 +71,7 @@ fn arg(letter: char, word: &str) -> Option<Arg> {
 }
 
 impl Case {
-    /// Reads a line; None where it is no case.
+    /// Reads a line that is one call; None where it is none.
     pub fn read(line: &str) -> Option<Case> {
         let mut words = line.split(' ');
         let (call, letters) = calls().get_key_value(words.next()?)?;
@@ -53,6 +80,11 @@ impl Case {
             args.push(arg(letter, words.next()?)?);
         }
         words.next().is_none().then_some(Case { call, args })
+    }
+
+    /// Reads a line of one or more calls with a semicolon between them; a space before each does not count. None where one is no call.
+    pub fn read_all(line: &str) -> Option<Vec<Case>> {
+        line.split(';').map(|call| Case::read(call.strip_prefix(' ').unwrap_or(call))).collect()
     }
 
     /// The part of the name before the dot, and the one behind it.

@@ -1,13 +1,14 @@
-//! Holds the proved program replay against the Rust, case by case:
+//! Holds the proved program replay against the Rust, case by case, and against the model of the rules in oracle/model where the Rust cannot be asked:
 //! - `answers answer`: cases on standard input, the Rust's answers on standard output;
-//! - `answers compare PROGRAM SECONDS SEED`: PROGRAM, which is replay, against the Rust;
-//! - `answers record FOLDER [--check]`: the cases of recorded in FOLDER, which is crates, and the Rust's answers to them, written anew or only
+//! - `answers compare PROGRAM SECONDS SEED`: PROGRAM, which is replay, against the Rust and the model;
+//! - `answers record FOLDER [--check]`: the cases of test_recorded in FOLDER, which is crates, and the Rust's answers to them, written anew or only
 //!   held against what is there.
 mod built;
 mod case;
 mod compare;
 mod domain;
 mod generate;
+mod model;
 mod notation;
 mod record;
 mod rows;
@@ -66,21 +67,23 @@ fn compare(program: &str, seconds: &str, seed: &str) -> Result<u8, String> {
     let seconds = seconds.parse().map_err(|_| format!("not a number of seconds: {seconds}"))?;
     let seed = seed.parse().map_err(|_| format!("not a seed: {seed}"))?;
     rows::consistent()?;
+    case::consistent()?;
     println!("SEED {seed}, {seconds} s");
     let started = std::time::Instant::now();
     let (counts, fixed_done) = compare::run(program, seconds, seed)?;
     let listed: u64 = counts.listed.values().sum();
     let rows: Vec<String> = counts.listed.iter().map(|(row, n)| format!("row {row}: {}", grouped(*n))).collect();
     println!("the cases that do not depend on the seed: {}", if fixed_done { "all" } else { "not all, for want of time" });
-    println!("not compared, since the Rust cannot be asked: {}", grouped(counts.unasked));
     println!("equal and on the domain: {}", grouped(counts.on_domain));
+    println!("compared with the model: {}, {} of them since the Rust cannot be asked", grouped(counts.ruled), grouped(counts.unasked));
     println!(
-        "SEED {seed}: {} cases compared in {} s: {} equal, {} listed differences ({}), {} unlisted",
-        grouped(counts.equal + listed + counts.wrongs),
+        "SEED {seed}: {} cases compared in {} s: {} equal, {} listed differences ({}), {} by the model alone, {} unlisted",
+        grouped(counts.equal + listed + counts.unasked + counts.wrongs),
         started.elapsed().as_secs(),
         grouped(counts.equal),
         grouped(listed),
         rows.join(", "),
+        grouped(counts.unasked),
         grouped(counts.wrongs)
     );
     // 77 says that something was left out, as of cabi/test and bench/run.

@@ -11,7 +11,8 @@ pub fn number(word: &str) -> Option<usize> {
 /// The longest bytes argument.
 const MOST_BYTES: usize = 66_000;
 
-/// Bytes: an x, then pieces with a dot between them; a piece is pairs of hexadecimal digits, or one pair, a star and a count.
+/// Bytes: an x, then pieces with a dot between them; a piece is pairs of hexadecimal digits, and behind them, where they stand several times, a star
+/// and a count.
 pub fn bytes(word: &str) -> Option<Vec<u8>> {
     let text = word.strip_prefix('x')?;
     let mut all = Vec::new();
@@ -20,20 +21,14 @@ pub fn bytes(word: &str) -> Option<Vec<u8>> {
     }
     for piece in text.split('.') {
         let (pairs, count) = match piece.split_once('*') {
-            Some((pair, count)) if pair.len() == 2 => (pair, number(count)?),
-            Some(_) => return None,
+            Some((pairs, count)) => (pairs, number(count)?),
             None => (piece, 1),
         };
-        if pairs.is_empty() || pairs.len() % 2 != 0 || count > MOST_BYTES {
+        if pairs.is_empty() || pairs.len() % 2 != 0 || count > MOST_BYTES || all.len() + pairs.len() / 2 * count > MOST_BYTES {
             return None;
         }
-        for pair in pairs.as_bytes().chunks(2) {
-            let byte = 16 * digit(pair[0])? + digit(pair[1])?;
-            all.extend(std::iter::repeat_n(byte, count));
-        }
-        if all.len() > MOST_BYTES {
-            return None;
-        }
+        let once: Option<Vec<u8>> = pairs.as_bytes().chunks(2).map(|pair| Some(16 * digit(pair[0])? + digit(pair[1])?)).collect();
+        all.extend(once?.repeat(count));
     }
     Some(all)
 }

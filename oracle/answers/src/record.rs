@@ -1,5 +1,5 @@
 //! Writes the fixed list that the tests replay with no Rust at hand: cases, and the Rust's own answers to them.
-use crate::case::Case;
+use crate::case::{self, Case};
 use crate::generate;
 use crate::rows;
 use crate::rust::{self, Answer};
@@ -115,7 +115,7 @@ fn spread(others: &BTreeMap<String, Vec<String>>) -> impl Iterator<Item = &Strin
 fn renewed(list: &str) -> Result<(String, String), String> {
     let chosen = chosen(list);
     for line in chosen.iter().filter(|line| is_case(line)) {
-        agreed(line).ok_or(format!("the Rust does not answer this case as the library does; it belongs in crates/replay: {line}"))?;
+        agreed(line).ok_or(format!("the Rust does not answer this case as the library does; it belongs in crates/test_replay: {line}"))?;
     }
     let mut cases = format!("{}\n", header());
     cases.extend(chosen.iter().map(|line| format!("{line}\n")));
@@ -133,14 +133,19 @@ fn renewed(list: &str) -> Result<(String, String), String> {
     Ok((cases, answers))
 }
 
-/// Looks at the hand-made answers, those of the program replay: none is to one that the Rust answers so too, and where the Rust answers otherwise
-/// both answers are as docs/DIFFERENCES.md has them. Answers how many of them the Rust answers otherwise.
-fn hand_made(answers: &str) -> Result<usize, String> {
+/// Looks at the answers of the program test_replay, which are the model's: the Rust gives none of them to a line of one call, and where it answers
+/// otherwise both answers are as docs/DIFFERENCES.md has them. Answers how many of them the Rust answers otherwise.
+fn ruled(cases: &str, answers: &str) -> Result<usize, String> {
     let mut listed = 0;
-    for (case, ours) in answers.lines().filter_map(|line| line.split_once(" = ")).filter(|(case, _)| Case::read(case).is_some()) {
-        match verdict::judge(case, ours) {
-            Verdict::Equal(_) => return Err(format!("the Rust answers this case of crates/replay so too; it belongs in crates/recorded: {case}")),
-            Verdict::Wrong(text) => return Err(format!("an answer of crates/replay is wrong: {text}")),
+    let mut lines = answers.lines();
+    for case in cases.lines().filter(|line| Case::read(line).is_some()) {
+        // The lines of the cases between that are none of one call, and the further lines of an answer, are passed over.
+        let ours = lines.find_map(|line| line.strip_prefix(case)?.strip_prefix(" = "));
+        match verdict::judge(case, ours.ok_or(format!("crates/test_replay/stdout has no answer to: {case}"))?) {
+            Verdict::Equal(_) => {
+                return Err(format!("the Rust answers this case of crates/test_replay so too; it belongs in crates/test_recorded: {case}"));
+            }
+            Verdict::Wrong(text) => return Err(format!("an answer of crates/test_replay is wrong: {text}")),
             Verdict::Listed(_) => listed += 1,
             Verdict::Unasked => {}
         }
@@ -148,23 +153,24 @@ fn hand_made(answers: &str) -> Result<usize, String> {
     Ok(listed)
 }
 
-/// Writes stdin and stdout of the program recorded, in a folder of crates, or only says whether they are what would be written.
+/// Writes stdin and stdout of the program test_recorded, in a folder of crates, or only says whether they are what would be written.
 pub fn run(crates: &str, check: bool) -> Result<bool, String> {
     let path = |name: &str| Path::new(crates).join(name);
     let read = |name: &str| fs::read_to_string(path(name)).map_err(|e| format!("cannot read {name} in {crates}: {e}"));
-    let listed = hand_made(&read("replay/stdout")?)?;
-    let list = read("recorded/stdin")?;
+    case::consistent()?;
+    let listed = ruled(&read("test_replay/stdin")?, &read("test_replay/stdout")?)?;
+    let list = read("test_recorded/stdin")?;
     let (cases, answers) = renewed(&list)?;
     let count = cases.lines().filter(|line| is_case(line)).count();
-    println!("crates/replay: {listed} cases that the Rust answers otherwise, as docs/DIFFERENCES.md has it");
+    println!("crates/test_replay: {listed} cases that the Rust answers otherwise, as docs/DIFFERENCES.md has it");
     if check {
-        let same = list == cases && read("recorded/stdout").is_ok_and(|old| old == answers);
-        println!("crates/recorded: {count} cases, {}", if same { "as they are recorded" } else { "not as they are recorded" });
+        let same = list == cases && read("test_recorded/stdout").is_ok_and(|old| old == answers);
+        println!("crates/test_recorded: {count} cases, {}", if same { "as they are recorded" } else { "not as they are recorded" });
         return Ok(same);
     }
-    for (name, text) in [("recorded/stdin", cases), ("recorded/stdout", answers)] {
+    for (name, text) in [("test_recorded/stdin", cases), ("test_recorded/stdout", answers)] {
         fs::write(path(name), text).map_err(|e| format!("cannot write {name} in {crates}: {e}"))?;
     }
-    println!("crates/recorded: {count} cases recorded");
+    println!("crates/test_recorded: {count} cases recorded");
     Ok(true)
 }

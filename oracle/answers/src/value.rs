@@ -208,7 +208,7 @@ pub fn role(case: &Case) -> Role {
         ("walk", "step_at" | "summary_of" | "listing" | "prefixes") | ("kind", "kind_at") | ("walker", "first") => Role::Read,
         ("entity", "from_tlv") => Role::FromTlv,
         ("type" | "action", _) | ("response", "has_second_filename") => Role::Table,
-        (_, method) if method == "new" || method.starts_with("new_") => Role::Build,
+        ("lv" | "tlv" | "entity" | "request" | "response", method) if method == "new" || method.starts_with("new_") => Role::Build,
         ("request" | "response", "len_value") | (_, "len_full" | "len_written") => Role::Length,
         (_, "write_to_slice" | "to_tlv") if case.kind() != "record" => Role::Write,
         ("lv" | "tlv" | "entity" | "request" | "response", "same") => Role::Compare,

@@ -9,7 +9,7 @@ pub enum Verdict {
     Equal(bool),
     /// The answers differ as this row of docs/DIFFERENCES.md says.
     Listed(u8),
-    /// The Rust cannot be asked.
+    /// The Rust cannot be asked: the model alone answers.
     Unasked,
     /// What is wrong, with both answers.
     Wrong(String),
@@ -23,24 +23,31 @@ fn text(answer: &Answer) -> &str {
     }
 }
 
-/// A row applies exactly where the answers differ, both are what it says, and no row is of a case on the domain.
+/// By the model of the rules: what is wrong, with both answers, where they differ.
+pub fn by_rules(line: &str, ours: &str, rules: &str) -> Option<Verdict> {
+    (ours != rules).then(|| Verdict::Wrong(format!("{line}\n  ours      {ours}\n  the rules {rules}\n  a difference from the model of the rules")))
+}
+
+/// By the Rust. A row applies exactly where the answers differ, both are what it says, and no row is of a case on the domain. The Rust is not asked
+/// several calls of one line, which have a state.
 pub fn judge(line: &str, ours: &str) -> Verdict {
-    let Some(case) = Case::read(line) else {
+    let Some(cases) = Case::read_all(line) else {
         return Verdict::Wrong(format!("{line}\n  no case"));
     };
-    let rust = rust::answer(&case);
+    let [case] = &cases[..] else { return Verdict::Unasked };
+    let rust = rust::answer(case);
     if rust == Answer::Unasked {
         return Verdict::Unasked;
     }
     let wrong = |what: &str| {
-        let place = if domain::on(&case) { "on the domain" } else { "off the domain" };
+        let place = if domain::on(case) { "on the domain" } else { "off the domain" };
         Verdict::Wrong(format!("{line}\n  ours     {ours}\n  the Rust {}\n  {what}, {place}", text(&rust)))
     };
     let equal = rust == Answer::Said(ours.into());
-    match rows::of(&case) {
-        None if equal => Verdict::Equal(domain::on(&case)),
+    match rows::of(case) {
+        None if equal => Verdict::Equal(domain::on(case)),
         None => wrong("a difference that no row lists"),
-        Some(row) if domain::on(&case) => wrong(&format!("row {} lists it", row.number)),
+        Some(row) if domain::on(case) => wrong(&format!("row {} lists it", row.number)),
         Some(row) if equal => wrong(&format!("equal, and row {} lists a difference", row.number)),
         Some(row) if row.ours != ours => wrong(&format!("row {} says of ours: {}", row.number, row.ours)),
         Some(row) if row.rust != rust => wrong(&format!("row {} says of the Rust: {}", row.number, text(&row.rust))),

@@ -1,4 +1,5 @@
-//! Cases to compare: the exhaustive ones, those at every boundary, and then random ones without end.
+//! Cases to compare: the exhaustive ones, those at every boundary, and then random ones without end; and those of the calls that the Rust has not.
+mod added;
 mod boundary;
 mod random;
 mod short;
@@ -17,6 +18,17 @@ fn x(bytes: &[u8]) -> String {
 pub fn fixed() -> Box<dyn Iterator<Item = String> + Send> {
     let smallest = rows::SMALLEST.iter().map(|(_, line)| line.to_string());
     Box::new(smallest.chain(boundary::cases()).chain(short::cases()))
+}
+
+/// The same of the calls that the Rust has not.
+pub fn added() -> impl Iterator<Item = String> + Send {
+    added::cases()
+}
+
+/// Random cases, of which one in five is of the calls that the Rust has not. Those come from a generator of their own.
+pub fn random(seed: u64) -> Box<dyn Iterator<Item = String> + Send> {
+    let (mut all, mut added) = (Random::new(seed), Random::new(!seed));
+    Box::new((0u64..).filter_map(move |i| if i % 5 == 0 { Some(added.added()) } else { all.next() }))
 }
 
 /// A second name.

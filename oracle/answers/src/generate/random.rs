@@ -28,27 +28,27 @@ impl Random {
     }
 
     /// The generator splitmix64.
-    fn word(&mut self) -> u64 {
+    pub(super) fn word(&mut self) -> u64 {
         self.state = self.state.wrapping_add(0x9e37_79b9_7f4a_7c15);
         let z = (self.state ^ (self.state >> 30)).wrapping_mul(0xbf58_476d_1ce4_e5b9);
         let z = (z ^ (z >> 27)).wrapping_mul(0x94d0_49bb_1331_11eb);
         z ^ (z >> 31)
     }
 
-    fn below(&mut self, limit: usize) -> usize {
+    pub(super) fn below(&mut self, limit: usize) -> usize {
         (self.word() % limit as u64) as usize
     }
 
-    fn one_in(&mut self, count: usize) -> bool {
+    pub(super) fn one_in(&mut self, count: usize) -> bool {
         self.below(count) == 0
     }
 
-    fn pick<T: Copy>(&mut self, from: &[T]) -> T {
+    pub(super) fn pick<T: Copy>(&mut self, from: &[T]) -> T {
         from[self.below(from.len())]
     }
 
     /// A length: most often short, at times about a boundary.
-    fn len(&mut self) -> usize {
+    pub(super) fn len(&mut self) -> usize {
         match self.below(24) {
             0 => self.pick(&[125, 126, 127, 128, 252, 253, 254, 255, 256, 257]),
             1 => self.below(260),
@@ -57,7 +57,7 @@ impl Random {
     }
 
     /// Bytes; long ones are of one byte, so that their text is short.
-    fn bytes(&mut self, len: usize) -> Vec<u8> {
+    pub(super) fn bytes(&mut self, len: usize) -> Vec<u8> {
         if len > 12 {
             return vec![self.word() as u8; len];
         }
@@ -70,7 +70,7 @@ impl Random {
     }
 
     /// A TLV as a writer would leave it; a filestore value may have bytes left, or a status or low bits of any sort.
-    fn tlv(&mut self) -> Vec<u8> {
+    pub(super) fn tlv(&mut self) -> Vec<u8> {
         let (tlv_type, mut value) = match self.below(8) {
             0..3 => (0, self.filestore_value(false)),
             3..6 => (1, self.filestore_value(true)),
@@ -104,7 +104,7 @@ impl Random {
     }
 
     /// A byte changed, bytes cut off at the end or put there, one taken out or put in; or nothing of that.
-    fn damage(&mut self, mut bytes: Vec<u8>) -> Vec<u8> {
+    pub(super) fn damage(&mut self, mut bytes: Vec<u8>) -> Vec<u8> {
         let at = self.below(bytes.len().max(1));
         match self.below(9) {
             0 | 1 if !bytes.is_empty() => bytes[at] = self.word() as u8,
@@ -161,7 +161,7 @@ impl Random {
     }
 
     /// A span in so many bytes, and at times one about their end.
-    fn span(&mut self, bytes: usize) -> (usize, usize) {
+    pub(super) fn span(&mut self, bytes: usize) -> (usize, usize) {
         if self.one_in(30) {
             return (self.below(bytes + 3), self.below(bytes + 2));
         }
@@ -169,13 +169,13 @@ impl Random {
         (self.below(bytes - len + 1), len)
     }
 
-    fn source(&mut self) -> Vec<u8> {
+    pub(super) fn source(&mut self) -> Vec<u8> {
         let len = if self.one_in(12) { 250 + self.below(60) } else { self.below(9) };
         self.bytes(len)
     }
 
     /// A buffer about what is needed.
-    fn buffer(&mut self, need: usize) -> String {
+    pub(super) fn buffer(&mut self, need: usize) -> String {
         let len = match self.below(6) {
             0 => need.saturating_sub(1),
             1 => need,
@@ -186,7 +186,7 @@ impl Random {
         x(&bytes)
     }
 
-    fn field(&mut self) -> String {
+    pub(super) fn field(&mut self) -> String {
         match self.one_in(3) {
             true => format!("c{}", self.word() as u8),
             false => self.pick(&["s0", "s1", "s2", "s4", "s5", "s6", "c6", "c0"]).into(),

@@ -2,7 +2,7 @@
 use super::{PLACED, READERS, TLV_TELLS, WALKS, x};
 
 /// All strings of a length over an alphabet, in order.
-fn strings(alphabet: &'static [u8], len: usize) -> impl Iterator<Item = Vec<u8>> + Send {
+pub fn strings(alphabet: &'static [u8], len: usize) -> impl Iterator<Item = Vec<u8>> + Send {
     let count = alphabet.len().pow(len as u32);
     (0..count).map(move |index| {
         let mut rest = index;
@@ -27,7 +27,7 @@ const ALL: [u8; 256] = {
 };
 
 /// Bytes that tell: the types with readers of their own, lengths about, an action with two names, one past the actions.
-const TELLING: [u8; 7] = [0, 1, 2, 3, 6, 0x20, 0x90];
+pub const TELLING: [u8; 7] = [0, 1, 2, 3, 6, 0x20, 0x90];
 
 /// A string, read by every reader and walked.
 fn read_by_all(string: Vec<u8>) -> Vec<String> {
@@ -44,7 +44,7 @@ fn framed(tlv_type: u8, first: u8, rest: &[u8]) -> Vec<String> {
     vec![with_len(len), with_len(len - 1), with_len(len + 1)]
 }
 
-fn framed_all() -> impl Iterator<Item = String> + Send {
+pub fn framed_all() -> impl Iterator<Item = String> + Send {
     const FIRST: [u8; 12] = [0, 5, 0x0f, 0x10, 0x20, 0x2f, 0x30, 0x40, 0x50, 0x80, 0x90, 0xf0];
     let short = (0..2).flat_map(|tlv_type| {
         FIRST

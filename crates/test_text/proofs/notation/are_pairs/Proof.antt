@@ -28,25 +28,25 @@ returns c =
     let l = c .before .before in
     sym (l .loop .inv ∙ ap isBytes (pairs-odd (l .loop .i) (l .before .before .args .text .now) (omega arith) (omega arith)))
 
-shared-slice-read-digit : tie.Need-shared-slice-read-digit Inv-loop μ-loop
-shared-slice-read-digit c = omega arith
+shared-slice-read-nibble : tie.Need-shared-slice-read-nibble Inv-loop μ-loop
+shared-slice-read-nibble c = omega arith
 
-digit-requires : tie.Need-digit-requires Inv-loop μ-loop
-digit-requires c κs = search needs
+nibble-requires : tie.Need-nibble-requires Inv-loop μ-loop
+nibble-requires c κs = search needs
 
 returns-2 : tie.Need-returns-2 Inv-loop μ-loop
 returns-2 c =
     let l = c .before .before .before .before .before in
     sym (l .loop .inv ∙ are-high (l .loop .i) (l .before .before .args .text .now) (omega arith) (omega arith))
 
-add-digit : tie.Need-add-digit Inv-loop μ-loop
-add-digit c = omega arith
+add-nibble : tie.Need-add-nibble Inv-loop μ-loop
+add-nibble c = omega arith
 
-shared-slice-read-digit-2 : tie.Need-shared-slice-read-digit-2 Inv-loop μ-loop
-shared-slice-read-digit-2 c = omega arith
+shared-slice-read-nibble-2 : tie.Need-shared-slice-read-nibble-2 Inv-loop μ-loop
+shared-slice-read-nibble-2 c = omega arith
 
-digit-requires-2 : tie.Need-digit-requires-2 Inv-loop μ-loop
-digit-requires-2 c κs = search needs
+nibble-requires-2 : tie.Need-nibble-requires-2 Inv-loop μ-loop
+nibble-requires-2 c κs = search needs
 
 returns-3 : tie.Need-returns-3 Inv-loop μ-loop
 returns-3 c =
@@ -79,12 +79,12 @@ are-pairs-spec =
     loop-holds
     sub-if1
     returns
-    shared-slice-read-digit
-    digit-requires
+    shared-slice-read-nibble
+    nibble-requires
     returns-2
-    add-digit
-    shared-slice-read-digit-2
-    digit-requires-2
+    add-nibble
+    shared-slice-read-nibble-2
+    nibble-requires-2
     returns-3
     add-i
     loop-less

@@ -5,17 +5,17 @@ use Prim.Native.Nat.{ℕ, _+_, _*_}
 use mathlib.Core.List.{[], _∷_}
 use lib.ListN.{set}
 use Rattle.test_text.specs.declared.Read.the-variants.{Is}
-use Rattle.test_text.specs.Notation.{hex}
+use Rattle.test_text.specs.Text.{digit}
 use Rattle.test_text.proofs.Reading.{left-as, left-not, left-full, left-these, pair-high, pair-low, pair-both, set-laid}
 use borrow.Author.Needs.{needs}
 use Rattle.test_text.proofs.notation.pair.Statement.{statement}
 use Rattle.test_text.proofs.notation.pair.Tie as tie
 
-digit-requires : tie.Need-digit-requires
-digit-requires c κs = search needs
+nibble-requires : tie.Need-nibble-requires
+nibble-requires c κs = search needs
 
-digit-requires-2 : tie.Need-digit-requires-2
-digit-requires-2 c κs = search needs
+nibble-requires-2 : tie.Need-nibble-requires-2
+nibble-requires-2 c κs = search needs
 
 returns : tie.Need-returns
 returns c =
@@ -51,17 +51,17 @@ same-length c = search needs
 returns-4 : tie.Need-returns-4
 returns-4 c =
     let a = c .before .before .before .before .before .before .args in
-    let v : c .before .before .before .before .digit .result * 16 + c .before .before .before .digit2 .result ≡ hex (a .high) * 16 + hex (a .low) = omega arith in
+    let v : c .before .before .before .before .nibble .result * 16 + c .before .before .before .nibble2 .result ≡ digit (a .high) * 16 + digit (a .low) = omega arith in
     left-as _ _ _ _ _ _ (pair-both (a .high) (a .low) (omega arith) (omega arith))
-    (left-these ((hex (a .high) * 16 + hex (a .low)) ∷ []) (a .at) (a .buf .now) (Is (a .at + 1)) _ (omega arith) refl
+    (left-these ((digit (a .high) * 16 + digit (a .low)) ∷ []) (a .at) (a .buf .now) (Is (a .at + 1)) _ (omega arith) refl
     (ap (λ (x : ℕ). set (a .buf .now) (a .at) x) v ∙ set-laid (a .at) _ (a .buf .now) (omega arith)))
 
 pub pair-spec : {M : Type 1} → statement M
 pair-spec =
     tie.close
     (tie.spec
-    digit-requires
-    digit-requires-2
+    nibble-requires
+    nibble-requires-2
     returns
     returns-2
     returns-3
