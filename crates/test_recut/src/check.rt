@@ -5,62 +5,40 @@ use crate::due::Due;
 use crate::due::Last;
 use crate::due::Wrong;
 use crate::sums;
+use test_recut_words::codes;
 use test_text::part;
 use walk::End;
 use walk::Record;
 use walk::Step;
 use walk::Summary;
 
-// What differs. The writer's refusal of the record that is appended counts as a difference.
-pub const NOTHING: u8 = 0;
-
-pub const NO_RECORD: u8 = 1;
-
-pub const PLACE: u8 = 2;
-
-pub const TYPE: u8 = 3;
-
-pub const SPAN: u8 = 4;
-
-pub const VALUE: u8 = 5;
-
-pub const NEXT: u8 = 6;
-
-pub const END: u8 = 7;
-
-pub const COUNT: u8 = 8;
-
-pub const SUMMARY_END: u8 = 9;
-
-pub const REFUSED: u8 = 10;
-
 // What the walk of s found, and where it goes on, against what is due.
 fn found(s: &[u8], r: Record, next: usize, due: Due, a: &[u8]) -> u8 {
     let v = r.value;
     if r.place != due.place {
-        return PLACE;
+        return codes::PLACE;
     }
     if r.tlv_type != due.tlv_type {
-        return TYPE;
+        return codes::TYPE;
     }
     if v.start != due.start || v.len != due.len {
-        return SPAN;
+        return codes::SPAN;
     }
     if next != due.next {
-        return NEXT;
+        return codes::NEXT;
     }
     if !splice::same(r.value(s), part(a, due.from, sums::sum(due.from, due.len))) {
-        return VALUE;
+        return codes::VALUE;
     }
-    NOTHING
+    codes::NOTHING
 }
 
 // What differs where the walk of s is at a place, and a record is due.
 fn record(s: &[u8], place: usize, due: Due, a: &[u8]) -> u8 {
     match walk::step_at(s, place) {
         Step::Record { record, next } => found(s, record, next, due, a),
-        Step::End(_) => NO_RECORD,
-        Step::Refused(_) => NO_RECORD,
+        Step::End(_) => codes::NO_RECORD,
+        Step::Refused(_) => codes::NO_RECORD,
     }
 }
 
@@ -71,13 +49,13 @@ fn records(s: &[u8], c: Cut, n: usize, w: Wrong, a: &[u8], ends: &[usize]) -> u8
     while i < n {
         let due = c.record(i, place, a, ends);
         let what = record(s, place, due.wrong(w, i), a);
-        if what != NOTHING {
+        if what != codes::NOTHING {
             return what;
         }
         place = due.next;
         i += 1;
     }
-    NOTHING
+    codes::NOTHING
 }
 
 // What a walk tells at its end: how many records it listed, their end, how many bytes that and what it left behind are, and whether it left nothing.
@@ -140,24 +118,24 @@ pub fn summary(s: &[u8]) -> Told {
 // What differs at the end of the walk of s, which is due by the list w.
 fn ended(s: &[u8], last: Last, w: Wrong) -> u8 {
     if !step_end(s, last.place).right(last.by_step(w)) {
-        return END;
+        return codes::END;
     }
     let t = summary(s);
     let due = last.by_summary(w);
     if t.count != due.count {
-        return COUNT;
+        return codes::COUNT;
     }
     if !t.right(due) {
-        return SUMMARY_END;
+        return codes::SUMMARY_END;
     }
-    NOTHING
+    codes::NOTHING
 }
 
 // What differs first in the walk of s, where the records of a cut and then an end are due, by the list w.
 pub fn walked(s: &[u8], c: Cut, last: Last, w: Wrong, a: &[u8], ends: &[usize]) -> u8 {
     let at_end = w.behind(last.count);
     let what = records(s, c, at_end.number(due::RECORDS, last.count), w, a, ends);
-    if what != NOTHING {
+    if what != codes::NOTHING {
         return what;
     }
     ended(s, last, at_end)

@@ -20,7 +20,8 @@
 //
 // In all modules a is the journal as the list has it, laid out by counting, and ends are the ends of its records; b is the journal that is
 // written, cut and appended to. The modules, from the input on: list (reads it), due (what is due of a walk by the list), check (one walk against
-// that), cuts (writes, cuts and appends), wrong (the lists that are wrong on purpose), say, sums.
+// that), cuts (writes, cuts and appends), wrong (the lists that are wrong on purpose), say, sums. The crate test_recut_words has
+// the words.
 mod check;
 mod cuts;
 mod due;
@@ -45,10 +46,10 @@ fn ends_room() -> [usize; 32768]
 fn run(a: &[u8], ends: &[usize], n: usize) {
     let mut b = io::large_buffer();
     if !cuts::written(a, ends, &mut b) {
-        return say::not_written();
+        return test_recut_words::not_written();
     }
     let sum = checksum(0, part(&b, 0, n));
-    say::journal(ends.len(), n, sum as usize);
+    test_recut_words::journal(ends.len(), n, sum as usize);
     say::tried(cuts::all(a, ends, n, &mut b));
     wrong::all(a, ends);
 }
@@ -61,10 +62,10 @@ fn main() {
     let list = list::read(part(&text, 0, size), &mut a, &mut ends);
     let count = list.count;
     if list.bad || 65535 < size {
-        return say::bad_list(list.at);
+        return test_recut_words::bad_list(list.at);
     }
     if 32768 < count {
-        return say::bad_list(list.at);
+        return test_recut_words::bad_list(list.at);
     }
     run(&a, &ends[0..count], list.place);
 }

@@ -1,12 +1,11 @@
 // Compares the walks of one cut with lists that are wrong on purpose, so that it is seen that each comparison finds what it is there for.
-use crate::check;
 use crate::cuts;
 use crate::cuts::Totals;
 use crate::due;
 use crate::due::Cut;
 use crate::due::Wrong;
-use crate::say;
 use crate::sums;
+use test_recut_words::codes;
 
 // What is said of the cut c by the list w.
 fn said(w: Wrong, c: Cut, a: &[u8], ends: &[usize]) -> u8 {
@@ -19,10 +18,10 @@ fn said(w: Wrong, c: Cut, a: &[u8], ends: &[usize]) -> u8 {
 fn said_of_three(w: Wrong, bytes: u8, whole: u8, c: Cut, a: &[u8], ends: &[usize]) -> u8 {
     let what = said(w, c, a, ends);
     if said(w.of(bytes), c, a, ends) != what {
-        return check::NOTHING;
+        return codes::NOTHING;
     }
     if said(w.of(whole), c, a, ends) != what {
-        return check::NOTHING;
+        return codes::NOTHING;
     }
     what
 }
@@ -44,7 +43,7 @@ fn more(name: &[u8], what: u8, record: usize, c: Cut, a: &[u8], ends: &[usize]) 
         what,
         more: true,
     };
-    say::wrong(name, record == c.m, b", one more: ", said_of(w, c, a, ends));
+    test_recut_words::wrong(name, record == c.m, b", one more: ", said_of(w, c, a, ends));
 }
 
 // The two lists in which one thing is wrong, which has a name.
@@ -55,7 +54,7 @@ fn pair(name: &[u8], what: u8, record: usize, c: Cut, a: &[u8], ends: &[usize]) 
         more: false,
     };
     more(name, what, record, c, a, ends);
-    say::wrong(name, record == c.m, b", one less: ", said_of(w, c, a, ends));
+    test_recut_words::wrong(name, record == c.m, b", one less: ", said_of(w, c, a, ends));
 }
 
 // The lists in which a record is wrong.
@@ -92,7 +91,7 @@ fn short(c: Cut, a: &[u8], ends: &[usize], b: &mut [u8]) -> Totals {
 fn of_room(c: Cut, a: &[u8], ends: &[usize]) {
     let mut b = io::large_buffer();
     let t = short(c, a, ends, &mut b);
-    say::wrong(b"room", false, b", one less: ", t.what);
+    test_recut_words::wrong(b"room", false, b", one less: ", t.what);
 }
 
 // The lists, at the cut behind the record in the middle: for the walk of the cut, for the walk after the append, and for the append.
