@@ -1,8 +1,7 @@
-// Says what the library's calls answer, on standard output: one function for each type of answer. A refusal is said by its number and values. The module notation has
-// the form in which bytes are said; docs/TESTS.md has the form of a case. The program test_recut says its text and its numbers by it too.
+// Says what the library's calls answer, on standard output: one function for each type of answer. A refusal is said by its number and values.
+// A record is said by five numbers: its place, its type byte, its value's start and length, and the place behind it. An end is said as whole
+// and its place, or as cut, its place and the count of bytes behind; a summary by the number of records and the end.
 // No contract states what is written: a public function here answers nothing and changes nothing that is lent.
-mod notation;
-
 use action::ActionCodeRead;
 use action::FilestoreActionCode;
 use entity_id::EntityIdRead;
@@ -19,75 +18,25 @@ use refusal::Refusal;
 use refusal::Sameness;
 use refusal::Values;
 use refusal::Written;
+use test_output::bytes;
+use test_output::count;
+use test_output::numbered;
+use test_output::same;
+use test_output::text;
 use tlv::StandardType;
 use tlv::Tlv;
 use tlv::TlvRead;
 use tlv::TlvType;
 use tlv::TlvTypeField;
+use walk::End;
+use walk::Record;
+use walk::Step;
+use walk::Summary;
 ghost use mathlib.Core.Path.{_≡_};
 
-// Text as it is, and a number.
-pub fn text(s: &[u8])
+pub fn refused(r: Refusal)
     ensures { λ r. ⌜ r ≡ tt ⌝ }
 {
-    io::write_all(libc::STDOUT_FILENO, s);
-}
-
-pub fn count(x: usize)
-    ensures { λ r. ⌜ r ≡ tt ⌝ }
-{
-    io::print_decimal(libc::STDOUT_FILENO, x as u64);
-}
-
-// A number with words before it.
-pub fn numbered(words: &[u8], x: usize)
-    ensures { λ r. ⌜ r ≡ tt ⌝ }
-{
-    text(words);
-    count(x);
-}
-
-// A line's end, and the answer to what is no case.
-pub fn line_end()
-    ensures { λ r. ⌜ r ≡ tt ⌝ }
-{
-    text(b"\n");
-}
-
-pub fn bad()
-    ensures { λ r. ⌜ r ≡ tt ⌝ }
-{
-    text(b"bad case");
-}
-
-// On standard error: nothing was answered.
-pub fn too_long()
-    ensures { λ r. ⌜ r ≡ tt ⌝ }
-{
-    io::write_all(libc::STDERR_FILENO, b"the input is too long\n");
-}
-
-pub fn truth(x: bool)
-    ensures { λ r. ⌜ r ≡ tt ⌝ }
-{
-    if x {
-        text(b"true");
-    } else {
-        text(b"false");
-    }
-}
-
-pub fn same(x: bool)
-    ensures { λ r. ⌜ r ≡ tt ⌝ }
-{
-    if x {
-        text(b"same");
-    } else {
-        text(b"different");
-    }
-}
-
-fn refused(r: Refusal) {
     numbered(b"refused ", r.number() as usize);
     let v = r.values();
     match v {
@@ -272,17 +221,10 @@ pub fn response(x: FilestoreResponseRead)
     }
 }
 
-// Bytes, in the notation of the cases.
-pub fn bytes(s: &[u8])
-    ensures { λ r. ⌜ r ≡ tt ⌝ }
-{
-    notation::say(s);
-}
-
 // Says all of a writer's buffer as it is afterwards; it stands behind the answer.
 fn buffer(buf: &[u8]) {
     text(b" buf ");
-    notation::say(buf);
+    bytes(buf);
 }
 
 pub fn written(x: Written, buf: &[u8])
@@ -300,4 +242,55 @@ pub fn tlv_written(x: TlvRead, buf: &[u8])
 {
     tlv(x);
     buffer(buf);
+}
+
+pub fn record(r: Record, next: usize)
+    ensures { λ r. ⌜ r ≡ tt ⌝ }
+{
+    let l = r.value;
+    count(r.place);
+    numbered(b" ", r.tlv_type as usize);
+    numbered(b" ", l.start);
+    numbered(b" ", l.len);
+    numbered(b" ", next);
+}
+
+pub fn end(e: End)
+    ensures { λ r. ⌜ r ≡ tt ⌝ }
+{
+    match e {
+        End::Whole(place) => {
+            numbered(b"whole ", place);
+        }
+        End::Cut { place, behind } => {
+            numbered(b"cut ", place);
+            numbered(b" ", behind);
+        }
+    }
+}
+
+pub fn step(x: Step)
+    ensures { λ r. ⌜ r ≡ tt ⌝ }
+{
+    match x {
+        Step::Record { record: r, next } => {
+            text(b"record ");
+            record(r, next);
+        }
+        Step::End(e) => end(e),
+        Step::Refused(r) => refused(r),
+    }
+}
+
+pub fn summary(x: Summary)
+    ensures { λ r. ⌜ r ≡ tt ⌝ }
+{
+    match x {
+        Summary::Counted { count: n, end: e } => {
+            count(n);
+            text(b" ");
+            end(e);
+        }
+        Summary::Refused(r) => refused(r),
+    }
 }

@@ -10,13 +10,13 @@ pub(crate) fn say(key: &[u8], w: Words, a: &[u8], b: &[u8]) {
         return test_answers::action(FilestoreActionCode::from_code((w.n9 % 256) as u8));
     }
     if is_row(key, b"action.to_code A") {
-        return test_answers::count(values::action(w.n9).to_code() as usize);
+        return test_output::count(values::action(w.n9).to_code() as usize);
     }
     if is_row(key, b"action.has_second A") {
-        return test_answers::truth(action::fs_request_has_second_filename(values::action(w.n9)));
+        return test_output::truth(action::fs_request_has_second_filename(values::action(w.n9)));
     }
     if is_row(key, b"second.value MX") {
-        return test_answers::bytes(values::second(w).value(a));
+        return test_output::bytes(values::second(w).value(a));
     }
     if is_row(key, b"second.span_test MX") {
         return test_answers::checked(values::second(w).span_test(a));

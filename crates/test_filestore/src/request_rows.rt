@@ -82,7 +82,7 @@ fn read(key: &[u8], left: Words, w: Words, a: &[u8], b: &[u8]) {
         return test_answers::standard(values::request(w).tlv_type());
     }
     if is_row(key, b"request.is_standard_tlv ANNM") {
-        return test_answers::truth(values::request(w).is_standard_tlv());
+        return test_output::truth(values::request(w).is_standard_tlv());
     }
     if is_row(key, b"request.from_bytes X") {
         return request(FilestoreRequestTlv::from_bytes(a));

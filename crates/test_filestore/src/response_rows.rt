@@ -45,7 +45,7 @@ pub(crate) fn say(key: &[u8], left: Words, w: Words, a: &[u8], b: &[u8]) {
     }
     if is_row(key, b"response.has_second_filename A") {
         let code = values::action(w.n9);
-        return test_answers::truth(FilestoreResponseTlv::has_second_filename(code));
+        return test_output::truth(FilestoreResponseTlv::has_second_filename(code));
     }
     if is_row(key, b"response.from_bytes X") {
         return response(FilestoreResponseTlv::from_bytes(a));
@@ -65,7 +65,7 @@ fn told(key: &[u8], left: Words, w: Words, a: &[u8], b: &[u8]) {
         return test_answers::action(ActionCodeRead::Read(q.action_code()));
     }
     if is_row(key, b"response.status_code AONNMNN") {
-        return test_answers::count(q.status_code() as usize);
+        return test_output::count(q.status_code() as usize);
     }
     if is_row(key, b"response.first_name AONNMNN") {
         return test_answers::lv(LvRead::Read(q.first_name()));
@@ -97,7 +97,7 @@ fn as_tlv(key: &[u8], left: Words, w: Words, a: &[u8], b: &[u8]) {
         return test_answers::standard(q.tlv_type());
     }
     if is_row(key, b"response.is_standard_tlv AONNMNN") {
-        return test_answers::truth(q.is_standard_tlv());
+        return test_output::truth(q.is_standard_tlv());
     }
     writers::say(key, w, a, b);
 }

@@ -18,7 +18,7 @@ pub(crate) fn say(key: &[u8], left: Words, w: Words, a: &[u8], b: &[u8]) {
         }));
     }
     if is_row(key, b"entity.len_value NN") {
-        return test_answers::count(x.len_value());
+        return test_output::count(x.len_value());
     }
     if is_row(key, b"entity.len_full NN") {
         return length(x.len_full());
@@ -33,7 +33,7 @@ pub(crate) fn say(key: &[u8], left: Words, w: Words, a: &[u8], b: &[u8]) {
         return test_answers::standard(x.tlv_type());
     }
     if is_row(key, b"entity.is_standard_tlv NN") {
-        return test_answers::truth(x.is_standard_tlv());
+        return test_output::truth(x.is_standard_tlv());
     }
     read(key, left, w, a, b);
 }
@@ -46,7 +46,7 @@ fn read(key: &[u8], left: Words, w: Words, a: &[u8], b: &[u8]) {
         return test_answers::entity(EntityIdTlv::from_tlv(values::tlv(w), a));
     }
     if is_row(key, b"entity.same NNNN") {
-        return test_answers::same(values::entity(w.n6, w.n7).same(values::entity(w.n8, w.n9)));
+        return test_output::same(values::entity(w.n6, w.n7).same(values::entity(w.n8, w.n9)));
     }
     writers::say(key, left, w, a, b);
 }

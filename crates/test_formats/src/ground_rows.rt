@@ -5,7 +5,7 @@ use test_text::is_row;
 
 pub(crate) fn say(key: &[u8], left: Words, w: Words, a: &[u8], b: &[u8]) {
     if is_row(key, b"splice.same XX") {
-        return test_answers::same(splice::same(a, b));
+        return test_output::same(splice::same(a, b));
     }
     if is_row(key, b"number.read X") {
         return test_answers::number(number::read(a));

@@ -1,7 +1,7 @@
 // Makes the calls of splice, number, lv, tlv and entity_id that a case asks for, and says what they answer. Nothing lent is changed: a writer writes to a copy.
 //
 // The calls stand in tables. A row is a call's name, with a letter for each word that it takes, and beside it the call itself and its kind of answer. To add a
-// call, add its row; `Word` in the crate test_lines has the letters.
+// call, add its row; `Word` in the program test_replay has the letters.
 mod entity_rows;
 mod ground_rows;
 mod lv_rows;

@@ -4,9 +4,9 @@ use crate::writers;
 use lv::Lv;
 use lv::LvRead;
 use test_answers::checked;
-use test_answers::count;
 use test_answers::length;
-use test_answers::truth;
+use test_output::count;
+use test_output::truth;
 use test_text::Words;
 use test_text::is_row;
 
@@ -36,7 +36,7 @@ pub(crate) fn say(key: &[u8], left: Words, w: Words, a: &[u8], b: &[u8]) {
 fn read(key: &[u8], left: Words, w: Words, a: &[u8], b: &[u8]) {
     let l = values::lv(w);
     if is_row(key, b"lv.value NNX") {
-        return test_answers::bytes(l.value(a));
+        return test_output::bytes(l.value(a));
     }
     if is_row(key, b"lv.span_test NNX") {
         return checked(l.span_test(a));

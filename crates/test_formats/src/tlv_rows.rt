@@ -2,7 +2,7 @@
 use crate::values;
 use crate::writers;
 use test_answers::length;
-use test_answers::truth;
+use test_output::truth;
 use test_text::Words;
 use test_text::is_row;
 use tlv::Tlv;
@@ -11,7 +11,7 @@ use tlv::TlvTypeField;
 
 pub(crate) fn say(key: &[u8], left: Words, w: Words, a: &[u8], b: &[u8]) {
     if is_row(key, b"type.to_byte F") {
-        return test_answers::count(values::field(w.n9).to_byte() as usize);
+        return test_output::count(values::field(w.n9).to_byte() as usize);
     }
     if is_row(key, b"type.from_byte O") {
         return test_answers::field(TlvTypeField::from_byte((w.n9 % 256) as u8));
@@ -43,7 +43,7 @@ fn told(key: &[u8], left: Words, w: Words, a: &[u8], b: &[u8]) {
         return length(t.len_full());
     }
     if is_row(key, b"tlv.len_value FNN") {
-        return test_answers::count(t.len_value());
+        return test_output::count(t.len_value());
     }
     if is_row(key, b"tlv.is_empty FNN") {
         return truth(t.is_empty());
@@ -62,7 +62,7 @@ fn told(key: &[u8], left: Words, w: Words, a: &[u8], b: &[u8]) {
 
 fn lent(key: &[u8], left: Words, w: Words, a: &[u8], b: &[u8]) {
     if is_row(key, b"tlv.value FNNX") {
-        return test_answers::bytes(values::tlv(w).value(a));
+        return test_output::bytes(values::tlv(w).value(a));
     }
     if is_row(key, b"tlv.span_test FNNX") {
         return test_answers::checked(values::tlv(w).span_test(a));

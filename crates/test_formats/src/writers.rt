@@ -27,14 +27,14 @@ fn on(key: &[u8], left: Words, w: Words, a: &[u8], b: &mut [u8]) {
     if is_row(key, b"number.write NNXN") {
         return written(number::write(w.n7 as u64, w.n8, b, w.n9), b);
     }
-    test_answers::bad();
+    test_output::bad();
 }
 
 pub(crate) fn say(key: &[u8], left: Words, w: Words, a: &[u8], b: &[u8]) {
     let mut copy = room();
     let n = b.len();
     if 66000 < n {
-        return test_answers::bad();
+        return test_output::bad();
     }
     splice::put(&mut copy, 0, b);
     on(key, left, w, a, &mut copy[0..n]);

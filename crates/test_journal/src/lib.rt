@@ -1,75 +1,24 @@
-// Makes the calls of walk, walker, kind, listing and dump_io that a case asks for, and says what they answer, on standard output. The tables are as in test_formats.
-// A record is said by five numbers: its place, its type byte, its value's start and length, and the place behind it. An end is said as whole
-// and its place, or as cut, its place and the count of bytes behind; a summary by the number of records and the end.
+// Makes the calls of walk, walker, kind and listing that a case asks for, and says what they answer, on standard output. The tables are as in test_formats.
 mod sum;
 
 use kind::Kind;
 use kind::kind_at;
 use lv::Lv;
-use refusal::Checked;
-use refusal::Refusal;
-use test_answers::count;
-use test_answers::numbered;
-use test_answers::text;
+use test_answers::end;
+use test_answers::record;
+use test_answers::refused;
+use test_answers::step;
+use test_answers::summary;
+use test_output::count;
+use test_output::text;
 use test_text::Words;
 use test_text::is_row;
 use tlv::TlvRead;
-use walk::End;
 use walk::Record;
 use walk::Step;
-use walk::Summary;
 use walk::step_at;
 use walk::summary_of;
 ghost use mathlib.Core.Path.{_≡_};
-
-fn refused(r: Refusal) {
-    test_answers::checked(Checked::Refused(r));
-}
-
-fn record(r: Record, next: usize) {
-    let l = r.value;
-    count(r.place);
-    numbered(b" ", r.tlv_type as usize);
-    numbered(b" ", l.start);
-    numbered(b" ", l.len);
-    numbered(b" ", next);
-}
-
-fn end(e: End) {
-    match e {
-        End::Whole(place) => {
-            numbered(b"whole ", place);
-        }
-        End::Cut { place, behind } => {
-            numbered(b"cut ", place);
-            numbered(b" ", behind);
-        }
-    }
-}
-
-pub fn step(x: Step)
-    ensures { λ r. ⌜ r ≡ tt ⌝ }
-{
-    match x {
-        Step::Record { record: r, next } => {
-            text(b"record ");
-            record(r, next);
-        }
-        Step::End(e) => end(e),
-        Step::Refused(r) => refused(r),
-    }
-}
-
-fn summary(x: Summary) {
-    match x {
-        Summary::Counted { count: n, end: e } => {
-            count(n);
-            text(b" ");
-            end(e);
-        }
-        Summary::Refused(r) => refused(r),
-    }
-}
 
 fn kind(x: Kind) {
     match x {
@@ -116,7 +65,7 @@ fn listing(a: &[u8]) {
 
 // A line for a prefix: its length, its summary and its listing.
 fn prefix(s: &[u8]) {
-    test_answers::line_end();
+    test_output::line_end();
     count(s.len());
     text(b": ");
     summary(summary_of(s));
@@ -134,7 +83,7 @@ fn prefixes(a: &[u8]) {
 
 // A line for a place: the step and the kind there.
 fn place(a: &[u8], at: usize) {
-    test_answers::line_end();
+    test_output::line_end();
     count(at);
     text(b": ");
     step(step_at(a, at));
@@ -160,12 +109,6 @@ fn record_of(w: Words) -> Record {
             len: w.n9,
         },
     }
-}
-
-// Lists a journal as the program dump does, from a new line on.
-fn dumped(a: &[u8]) {
-    test_answers::line_end();
-    dump_io::list(a);
 }
 
 // Makes a call, and says what it answers: key, w and a are as `test_formats::say` has them, and the rows too.
@@ -198,7 +141,7 @@ fn more(key: &[u8], w: Words, a: &[u8]) {
         return test_answers::tlv(TlvRead::Read(record_of(w).to_tlv()));
     }
     if is_row(key, b"record.value NONNX") {
-        return test_answers::bytes(record_of(w).value(a));
+        return test_output::bytes(record_of(w).value(a));
     }
     if is_row(key, b"record.span_test NONNX") {
         return test_answers::checked(record_of(w).span_test(a));
@@ -206,11 +149,8 @@ fn more(key: &[u8], w: Words, a: &[u8]) {
     if is_row(key, b"walker.first X") {
         return step(walker::first(a));
     }
-    if is_row(key, b"dump.list X") {
-        return dumped(a);
-    }
     if is_row(key, b"listing.sum X") {
         return sum::say(a);
     }
-    test_answers::bad();
+    test_output::bad();
 }

@@ -3,7 +3,7 @@ use listing::At;
 use listing::Filled;
 use listing::fill;
 use std::num::wrapping_add_usize;
-use test_answers::text;
+use test_output::text;
 use test_text::checksum;
 use test_text::next_line;
 use test_text::part;
@@ -67,8 +67,8 @@ fn through(journal: &[u8], out: &mut [u8]) -> Sum {
 }
 
 fn say_number(what: &[u8], x: usize) {
-    test_answers::numbered(what, x);
-    test_answers::line_end();
+    test_output::numbered(what, x);
+    test_output::line_end();
 }
 
 fn say_first_lines(listed: &[u8]) {
@@ -95,7 +95,7 @@ fn say_start(journal: &[u8], out: &mut [u8]) {
 
 // From a new line on; or `pieces differ`, where the listing through a small buffer and that through a large one are not alike.
 pub(crate) fn say(journal: &[u8]) {
-    test_answers::line_end();
+    test_output::line_end();
     let mut small = [0u8; 101];
     let mut large = io::large_buffer();
     let sum = through(journal, &mut small);

@@ -5,7 +5,7 @@ use crate::due::Due;
 use crate::due::Last;
 use crate::due::Wrong;
 use crate::sums;
-use test_recut_words::codes;
+use test_output::codes;
 use test_text::part;
 use walk::End;
 use walk::Record;

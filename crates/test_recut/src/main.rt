@@ -9,7 +9,7 @@
 // The program says how many records and bytes there are, a checksum of the journal, how many cuts were tried and how their walks ended, the
 // sums over all cuts of the records listed and of the bytes behind the told place, the records appended, and the sums of the records listed
 // after the append and of the places where the journals end then, each as a summary tells it. Then comes `all as written`, or the first cut at
-// which something differs, and what.
+// which something differs, what, and the listing of the journal that was walked there.
 //
 // Then it tests its own comparisons, at the cut behind the record in the middle. The walk of the cut is compared with lists in which one thing
 // of its last record or of its end is wrong: a number by one, upwards and downwards, or a `whole` turned round, or one record is too many. The
@@ -20,7 +20,7 @@
 //
 // In all modules a is the journal as the list has it, laid out by counting, and ends are the ends of its records; b is the journal that is
 // written, cut and appended to. The modules, from the input on: list (reads it), due (what is due of a walk by the list), check (one walk against
-// that), cuts (writes, cuts and appends), wrong (the lists that are wrong on purpose), say, sums. The crate test_recut_words has
+// that), cuts (writes, cuts and appends), wrong (the lists that are wrong on purpose), say, sums. The crate test_output has
 // the words.
 mod check;
 mod cuts;
@@ -30,6 +30,8 @@ mod say;
 mod sums;
 mod wrong;
 
+use test_output::codes;
+use test_output::recut;
 use test_text::checksum;
 use test_text::part;
 ghost use mathlib.Core.Path.{_≡_};
@@ -46,11 +48,15 @@ fn ends_room() -> [usize; 32768]
 fn run(a: &[u8], ends: &[usize], n: usize) {
     let mut b = io::large_buffer();
     if !cuts::written(a, ends, &mut b) {
-        return test_recut_words::not_written();
+        return recut::not_written();
     }
     let sum = checksum(0, part(&b, 0, n));
-    test_recut_words::journal(ends.len(), n, sum as usize);
-    say::tried(cuts::all(a, ends, n, &mut b));
+    recut::journal(ends.len(), n, sum as usize);
+    let t = cuts::all(a, ends, n, &mut b);
+    say::tried(t);
+    if t.what != codes::NOTHING {
+        dump_io::list(part(&b, 0, t.walked));
+    }
     wrong::all(a, ends);
 }
 
@@ -62,10 +68,10 @@ fn main() {
     let list = list::read(part(&text, 0, size), &mut a, &mut ends);
     let count = list.count;
     if list.bad || 65535 < size {
-        return test_recut_words::bad_list(list.at);
+        return recut::bad_list(list.at);
     }
     if 32768 < count {
-        return test_recut_words::bad_list(list.at);
+        return recut::bad_list(list.at);
     }
     run(&a, &ends[0..count], list.place);
 }

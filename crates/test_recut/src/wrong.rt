@@ -5,7 +5,8 @@ use crate::due;
 use crate::due::Cut;
 use crate::due::Wrong;
 use crate::sums;
-use test_recut_words::codes;
+use test_output::codes;
+use test_output::recut;
 
 // What is said of the cut c by the list w.
 fn said(w: Wrong, c: Cut, a: &[u8], ends: &[usize]) -> u8 {
@@ -36,25 +37,25 @@ fn said_of(w: Wrong, c: Cut, a: &[u8], ends: &[usize]) -> u8 {
     }
 }
 
-// The list in which one thing is one more than it should be, at the record with a number. That of the number m is the one that is appended.
-fn more(name: &[u8], what: u8, record: usize, c: Cut, a: &[u8], ends: &[usize]) {
-    let w = Wrong {
+// The list w, whose wrong thing has a name. The record with the number m is the one that is appended.
+fn one(name: &[u8], w: Wrong, c: Cut, a: &[u8], ends: &[usize]) {
+    recut::wrong(name, w.record == c.m, w.more, said_of(w, c, a, ends));
+}
+
+// The two lists in which one thing is wrong, of the record with a number or of the end behind it.
+fn pair(name: &[u8], what: u8, record: usize, c: Cut, a: &[u8], ends: &[usize]) {
+    let more = Wrong {
         record,
         what,
         more: true,
     };
-    test_recut_words::wrong(name, record == c.m, b", one more: ", said_of(w, c, a, ends));
-}
-
-// The two lists in which one thing is wrong, which has a name.
-fn pair(name: &[u8], what: u8, record: usize, c: Cut, a: &[u8], ends: &[usize]) {
-    let w = Wrong {
+    let less = Wrong {
         record,
         what,
         more: false,
     };
-    more(name, what, record, c, a, ends);
-    test_recut_words::wrong(name, record == c.m, b", one less: ", said_of(w, c, a, ends));
+    one(name, more, c, a, ends);
+    one(name, less, c, a, ends);
 }
 
 // The lists in which a record is wrong.
@@ -69,7 +70,12 @@ fn of_record(record: usize, c: Cut, a: &[u8], ends: &[usize]) {
 
 // The lists in which the end behind it is wrong. One has a record that is not there.
 fn of_end(record: usize, c: Cut, a: &[u8], ends: &[usize]) {
-    more(b"records", due::RECORDS, record, c, a, ends);
+    let records = Wrong {
+        record,
+        what: due::RECORDS,
+        more: true,
+    };
+    one(b"records", records, c, a, ends);
     pair(b"end", due::END, record, c, a, ends);
     pair(b"count", due::COUNT, record, c, a, ends);
     pair(b"summary", due::SUMMARY, record, c, a, ends);
@@ -91,7 +97,7 @@ fn short(c: Cut, a: &[u8], ends: &[usize], b: &mut [u8]) -> Totals {
 fn of_room(c: Cut, a: &[u8], ends: &[usize]) {
     let mut b = io::large_buffer();
     let t = short(c, a, ends, &mut b);
-    test_recut_words::wrong(b"room", false, b", one less: ", t.what);
+    recut::wrong(b"room", false, false, t.what);
 }
 
 // The lists, at the cut behind the record in the middle: for the walk of the cut, for the walk after the append, and for the append.

@@ -20,7 +20,7 @@ pub struct Case {
 }
 
 /// The sources of replay that have rows: a row is a call's name and, behind a space, a letter for each of its arguments.
-const SOURCES: [&str; 11] = [
+const SOURCES: [&str; 12] = [
     include_str!("../../../crates/test_formats/src/entity_rows.rt"),
     include_str!("../../../crates/test_formats/src/ground_rows.rt"),
     include_str!("../../../crates/test_formats/src/lv_rows.rt"),
@@ -31,7 +31,8 @@ const SOURCES: [&str; 11] = [
     include_str!("../../../crates/test_filestore/src/response_rows.rt"),
     include_str!("../../../crates/test_filestore/src/writers.rt"),
     include_str!("../../../crates/test_journal/src/lib.rt"),
-    include_str!("../../../crates/test_lines/src/walker_rows.rt"),
+    include_str!("../../../crates/test_replay/src/tables.rt"),
+    include_str!("../../../crates/test_replay/src/walker_rows.rt"),
 ];
 
 /// The calls with the letters of their arguments, as replay's own rows have them.

@@ -1,4 +1,4 @@
-//! Writes the fixed list that the tests replay with no Rust at hand: cases, and the Rust's own answers to them.
+//! Writes the recorded part of the list that the tests replay with no Rust at hand: cases, and the Rust's own answers to them.
 use crate::case::{self, Case};
 use crate::generate;
 use crate::rows;
@@ -8,24 +8,32 @@ use std::collections::{BTreeMap, HashSet};
 use std::fs;
 use std::path::Path;
 
+/// The files, in a folder of crates.
+const STDIN: &str = "test_replay/stdin";
+const STDOUT: &str = "test_replay/stdout";
+
 const SEED: u64 = 1;
 
 /// How many random cases are looked through, beside all the fixed ones.
 const RANDOM_CASES: usize = 300_000;
 
-/// The whole list stays below what a run of the proved program takes.
+/// The recorded part has at most so many bytes.
 const MOST_BYTES: usize = 126_000;
 
 /// A generated case that only adds to the spread is no longer.
 const SHORT: usize = 80;
 
-/// What the line that parts the cases begins with.
+/// What the first line of the recorded part begins with.
+const RECORDED: &str = "# Recorded";
+
+/// What the line above its generated cases begins with.
 const GENERATED: &str = "# Generated";
 
 fn header() -> String {
-    "# Cases with the Rust's own answers (spacepackets 0.19.0). Written by oracle/record; `oracle/record --check` tells whether it would write\n\
-     # anything else. The cases up to the line that begins with '# Generated' are chosen by hand: to add one, put it there and run oracle/record.\n"
-        .into()
+    format!(
+        "{RECORDED} by oracle/record: the cases from here on have the Rust's own answers (spacepackets 0.19.0). With --check it tells whether it would\n\
+         # write others. Those up to the line that begins with '{GENERATED}' are chosen by hand: to add one, put it there, and run oracle/record.\n"
+    )
 }
 
 fn generated_line() -> String {
@@ -63,6 +71,15 @@ fn class(line: &str, answer: &str) -> String {
         refused = word == "refused";
     }
     text
+}
+
+/// What stands above the recorded part of a file, and that part.
+fn parted<'a>(name: &str, text: &'a str) -> Result<(&'a str, &'a str), String> {
+    let above = text.split_inclusive('\n').take_while(|line| !line.starts_with(RECORDED)).map(str::len).sum();
+    match text.split_at(above) {
+        (_, "") => Err(format!("crates/{name} has no line that begins with '{RECORDED}'")),
+        parts => Ok(parts),
+    }
 }
 
 /// The hand-chosen lines of the list as it is, without its header.
@@ -111,16 +128,18 @@ fn spread(others: &BTreeMap<String, Vec<String>>) -> impl Iterator<Item = &Strin
     (0..PARTS).flat_map(move |part| others.values().map(move |lines| &lines[(part * 2 + 1) * lines.len() / (2 * PARTS)]))
 }
 
-/// The list anew, and the answers to it, from the list as it is.
+/// The recorded cases anew, and the answers to them, from the cases as they are.
 fn renewed(list: &str) -> Result<(String, String), String> {
     let chosen = chosen(list);
     for line in chosen.iter().filter(|line| is_case(line)) {
-        agreed(line).ok_or(format!("the Rust does not answer this case as the library does; it belongs in crates/test_replay: {line}"))?;
+        agreed(line).ok_or(format!(
+            "the Rust does not answer this case as the library does; it belongs above the recorded part of crates/test_replay/stdin: {line}"
+        ))?;
     }
     let mut cases = format!("{}\n", header());
     cases.extend(chosen.iter().map(|line| format!("{line}\n")));
     cases += &format!("\n{}\n", generated_line());
-    let room = MOST_BYTES.checked_sub(cases.len()).ok_or("the cases that are chosen by hand leave no room")?;
+    let room = MOST_BYTES.checked_sub(cases.len()).ok_or("the recorded cases that are chosen by hand leave no room")?;
     cases.extend(generated(room, &chosen).iter().map(|line| format!("{line}\n")));
     let mut answers = String::new();
     for line in cases.lines() {
@@ -133,7 +152,7 @@ fn renewed(list: &str) -> Result<(String, String), String> {
     Ok((cases, answers))
 }
 
-/// Looks at the answers of the program test_replay, which are the model's: the Rust gives none of them to a line of one call, and where it answers
+/// Looks at the answers above the recorded part, which are the model's: the Rust gives none of them to a line of one call, and where it answers
 /// otherwise both answers are as docs/DIFFERENCES.md has them. Answers how many of them the Rust answers otherwise.
 fn ruled(cases: &str, answers: &str) -> Result<usize, String> {
     let mut listed = 0;
@@ -141,11 +160,11 @@ fn ruled(cases: &str, answers: &str) -> Result<usize, String> {
     for case in cases.lines().filter(|line| Case::read(line).is_some()) {
         // The lines of the cases between that are none of one call, and the further lines of an answer, are passed over.
         let ours = lines.find_map(|line| line.strip_prefix(case)?.strip_prefix(" = "));
-        match verdict::judge(case, ours.ok_or(format!("crates/test_replay/stdout has no answer to: {case}"))?) {
+        match verdict::judge(case, ours.ok_or(format!("crates/test_replay/stdout has above its recorded part no answer to: {case}"))?) {
             Verdict::Equal(_) => {
-                return Err(format!("the Rust answers this case of crates/test_replay so too; it belongs in crates/test_recorded: {case}"));
+                return Err(format!("the Rust answers this case so too; it belongs in the recorded part of crates/test_replay/stdin: {case}"));
             }
-            Verdict::Wrong(text) => return Err(format!("an answer of crates/test_replay is wrong: {text}")),
+            Verdict::Wrong(text) => return Err(format!("an answer above the recorded part of crates/test_replay/stdout is wrong: {text}")),
             Verdict::Listed(_) => listed += 1,
             Verdict::Unasked => {}
         }
@@ -153,24 +172,26 @@ fn ruled(cases: &str, answers: &str) -> Result<usize, String> {
     Ok(listed)
 }
 
-/// Writes stdin and stdout of the program test_recorded, in a folder of crates, or only says whether they are what would be written.
+/// Writes the recorded part of stdin and stdout of the program test_replay, in a folder of crates, or only says whether it is what would be written.
 pub fn run(crates: &str, check: bool) -> Result<bool, String> {
     let path = |name: &str| Path::new(crates).join(name);
     let read = |name: &str| fs::read_to_string(path(name)).map_err(|e| format!("cannot read {name} in {crates}: {e}"));
     case::consistent()?;
-    let listed = ruled(&read("test_replay/stdin")?, &read("test_replay/stdout")?)?;
-    let list = read("test_recorded/stdin")?;
-    let (cases, answers) = renewed(&list)?;
+    let (stdin, stdout) = (read(STDIN)?, read(STDOUT)?);
+    let (cases_above, old_cases) = parted(STDIN, &stdin)?;
+    let (answers_above, old_answers) = parted(STDOUT, &stdout)?;
+    let listed = ruled(cases_above, answers_above)?;
+    let (cases, answers) = renewed(old_cases)?;
     let count = cases.lines().filter(|line| is_case(line)).count();
     println!("crates/test_replay: {listed} cases that the Rust answers otherwise, as docs/DIFFERENCES.md has it");
     if check {
-        let same = list == cases && read("test_recorded/stdout").is_ok_and(|old| old == answers);
-        println!("crates/test_recorded: {count} cases, {}", if same { "as they are recorded" } else { "not as they are recorded" });
+        let same = old_cases == cases && old_answers == answers;
+        println!("crates/test_replay, recorded part: {count} cases, {}", if same { "as they are recorded" } else { "not as they are recorded" });
         return Ok(same);
     }
-    for (name, text) in [("test_recorded/stdin", cases), ("test_recorded/stdout", answers)] {
+    for (name, text) in [(STDIN, cases_above.to_owned() + &cases), (STDOUT, answers_above.to_owned() + &answers)] {
         fs::write(path(name), text).map_err(|e| format!("cannot write {name} in {crates}: {e}"))?;
     }
-    println!("crates/test_recorded: {count} cases recorded");
+    println!("crates/test_replay, recorded part: {count} cases recorded");
     Ok(true)
 }

@@ -1,6 +1,7 @@
-// The tables of the calls that have no state, by the front of a call's name.
+// The tables of the calls that have no state, by the front of a call's name, and the row of dump_io.
 use test_text::Words;
 use test_text::begins;
+use test_text::is_row;
 
 fn in_journal(key: &[u8]) -> bool {
     if begins(key, b"walk") {
@@ -10,9 +11,6 @@ fn in_journal(key: &[u8]) -> bool {
         return true;
     }
     if begins(key, b"record.") {
-        return true;
-    }
-    if begins(key, b"dump.") {
         return true;
     }
     begins(key, b"listing.")
@@ -31,6 +29,12 @@ fn in_filestore(key: &[u8]) -> bool {
     begins(key, b"second.")
 }
 
+// Lists a journal as the program dump does, from a new line on.
+fn dumped(a: &[u8]) {
+    test_output::line_end();
+    dump_io::list(a);
+}
+
 // Makes a call, and says what it answers. key, left, w, a and b are as `test_formats::say` has them. A new crate of tables has its test here.
 pub(crate) fn say(key: &[u8], left: Words, w: Words, a: &[u8], b: &[u8]) {
     if in_journal(key) {
@@ -38,6 +42,9 @@ pub(crate) fn say(key: &[u8], left: Words, w: Words, a: &[u8], b: &[u8]) {
     }
     if in_filestore(key) {
         return test_filestore::say(key, left, w, a, b);
+    }
+    if is_row(key, b"dump.list X") {
+        return dumped(a);
     }
     test_formats::say(key, left, w, a, b);
 }

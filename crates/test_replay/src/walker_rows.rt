@@ -1,7 +1,7 @@
 // The calls of a walker, each on the state that the call before it left. A state is made anew for each line: to add another one, add its fields to State, and its rows in a
 // module of their own, which hands on as this one does.
 use crate::tables;
-use test_answers::numbered;
+use test_output::numbered;
 use test_text::Words;
 use test_text::is_row;
 use test_text::part;
@@ -24,14 +24,14 @@ fn made(a: &[u8], at: usize, held: &mut [u8]) -> State {
 }
 
 fn look(state: State, src: &[u8]) -> State {
-    test_journal::step(test_walker::look_at(src, state.at));
+    test_answers::step(test_walker::look_at(src, state.at));
     state
 }
 
 fn step(state: State, src: &[u8]) -> State {
     let stepped = test_walker::step_at(src, state.at);
     let step = stepped.step;
-    test_journal::step(step);
+    test_answers::step(step);
     numbered(b", at ", stepped.at);
     State {
         len: state.len,

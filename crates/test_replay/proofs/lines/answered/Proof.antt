@@ -1,12 +1,12 @@
--- `test_lines::lines::answered` is safe and ends: a call begins behind the sign that ends the one before it, so what is left of the line falls. The rooms
+-- `test_replay::lines::answered` is safe and ends: a call begins behind the sign that ends the one before it, so what is left of the line falls. The rooms
 -- keep their lengths. Assumes nothing.
 use borrow.Author.Needs.{needs}
 use native.Mathlib.Omega.{arith}
 use Prim.Native.Nat.{_-_}
 use lib.ListN.{length}
 use mathlib.Core.Path.{_≡_}
-use Rattle.test_lines.proofs.lines.answered.Statement.{statement}
-use Rattle.test_lines.proofs.lines.answered.Tie as tie
+use Rattle.test_replay.proofs.lines.answered.Statement.{statement}
+use Rattle.test_replay.proofs.lines.answered.Tie as tie
 
 abbrev Inv-loop : tie.InvT-loop
 Inv-loop line a₀ b₀ held₀ state₀ at₀ t9 a b held state at = (length a ≡ length a₀) × (length b ≡ length b₀) × (length held ≡ length held₀)

@@ -2,7 +2,7 @@
 use crate::call;
 use crate::walker_rows;
 use crate::walker_rows::State;
-use test_answers::text;
+use test_output::text;
 use test_text::Read;
 use test_text::bytes;
 use test_text::copied;
@@ -32,7 +32,7 @@ fn answer(state: State, call: &[u8], a: &mut [u8], b: &mut [u8], held: &mut [u8]
     let n = read(part(call, c.first, c.first_end), a);
     let m = read(part(call, c.last, c.last_end), b);
     if n == NO_BYTES || m == NO_BYTES {
-        test_answers::bad();
+        test_output::bad();
         return state;
     }
     walker_rows::say(
@@ -93,7 +93,7 @@ pub(crate) fn run(input: &[u8], a: &mut [u8], b: &mut [u8], held: &mut [u8]) {
     let mut at: usize = 0;
     while at < input.len() {
         replayed(line(input, at), a, b, held);
-        test_answers::line_end();
+        test_output::line_end();
         at = next_line(input, at);
     }
 }

@@ -1,10 +1,10 @@
--- `test_answers::notation::run_end` meets its contract: the place only moves on from where it started, and what is left of the bytes falls.
+-- `test_output::notation::run_end` meets its contract: the place only moves on from where it started, and what is left of the bytes falls.
 -- Assumes nothing.
 use borrow.Author.Needs.{needs}
 use Prim.Native.Nat.{_≤_, _-_}
 use lib.ListN.{length}
-use Rattle.test_answers.proofs.notation.run_end.Statement.{statement}
-use Rattle.test_answers.proofs.notation.run_end.Tie as tie
+use Rattle.test_output.proofs.notation.run_end.Statement.{statement}
+use Rattle.test_output.proofs.notation.run_end.Tie as tie
 
 abbrev Inv-loop : tie.InvT-loop
 Inv-loop s x from i₀ i = from ≤ i

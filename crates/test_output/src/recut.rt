@@ -1,8 +1,7 @@
-// What the program test_recut says, on standard output, but for its sums. No contract states what is written: a function here answers nothing and changes nothing that is lent.
-pub mod codes;
-
-use test_answers::count;
-use test_answers::text;
+// What the program test_recut says. codes has what may differ between a walk and what is due of it.
+use crate::codes;
+use crate::count;
+use crate::text;
 ghost use mathlib.Core.Path.{_≡_};
 
 // A line: a number and what it counts.
@@ -53,8 +52,57 @@ pub fn journal(count: usize, n: usize, checksum: usize)
     line(checksum, b" is their checksum\n");
 }
 
+// How many cuts there are, and how their walks ended.
+pub fn cuts(count: usize, whole: usize, cut: usize)
+    ensures { λ r. ⌜ r ≡ tt ⌝ }
+{
+    line(count, b" cuts\n");
+    line(whole, b" ended whole\n");
+    line(cut, b" ended cut\n");
+}
+
+// What their walks told before the append, in all.
+pub fn before(listed: usize, behind: usize)
+    ensures { λ r. ⌜ r ≡ tt ⌝ }
+{
+    line(listed, b" records listed\n");
+    line(behind, b" bytes behind\n");
+}
+
+// How many records were appended, and what the walks told after that, in all.
+pub fn after(appended: usize, listed: usize, bytes: usize)
+    ensures { λ r. ⌜ r ≡ tt ⌝ }
+{
+    line(appended, b" records appended\n");
+    line(listed, b" records listed after the append\n");
+    line(bytes, b" bytes in all after the append\n");
+}
+
+// That nothing differs; or what does where so many bytes are kept, and whether it does so after the append.
+pub fn ended(kept: usize, again: bool, what: u8)
+    ensures { λ r. ⌜ r ≡ tt ⌝ }
+{
+    if what == codes::NOTHING {
+        return text(b"all as written\n");
+    }
+    if again {
+        line(kept, b" bytes kept, and appended to: ");
+    } else {
+        line(kept, b" bytes kept: ");
+    }
+    difference(what);
+}
+
+fn by_one(more: bool) {
+    if more {
+        text(b", one more: ");
+    } else {
+        text(b", one less: ");
+    }
+}
+
 // What the comparison says where one thing is wrong: of the walk of a cut, or of the walk after the append.
-pub fn wrong(name: &[u8], again: bool, by: &[u8], what: u8)
+pub fn wrong(name: &[u8], again: bool, more: bool, what: u8)
     ensures { λ r. ⌜ r ≡ tt ⌝ }
 {
     text(b"wrong ");
@@ -62,6 +110,6 @@ pub fn wrong(name: &[u8], again: bool, by: &[u8], what: u8)
     if again {
         text(b" after the append");
     }
-    text(by);
+    by_one(more);
     difference(what);
 }

@@ -1,10 +1,10 @@
--- `test_answers::notation::say` is safe and ends: a run ends behind the place where it starts, so the place moves on in either branch, and what is
+-- `test_output::notation::say` is safe and ends: a run ends behind the place where it starts, so the place moves on in either branch, and what is
 -- left of the bytes falls. Assumes nothing.
 use borrow.Author.Needs.{needs}
 use Prim.Native.Nat.{_-_}
 use lib.ListN.{length}
-use Rattle.test_answers.proofs.notation.say.Statement.{statement}
-use Rattle.test_answers.proofs.notation.say.Tie as tie
+use Rattle.test_output.proofs.notation.say.Statement.{statement}
+use Rattle.test_output.proofs.notation.say.Tie as tie
 
 abbrev Inv-loop : tie.InvT-loop
 Inv-loop s before₀ i₀ before i = Unit

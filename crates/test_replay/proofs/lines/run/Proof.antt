@@ -1,12 +1,12 @@
--- `test_lines::lines::run` is safe and ends: the next line begins behind the one before it, so what is left of the input falls. The rooms keep their lengths. Assumes nothing.
+-- `test_replay::lines::run` is safe and ends: the next line begins behind the one before it, so what is left of the input falls. The rooms keep their lengths. Assumes nothing.
 use borrow.Author.Needs.{needs}
 use native.Mathlib.Omega.{arith}
 use Prim.Native.Nat.{_-_}
 use lib.ListN.{length}
 use Rattle.test_text.proofs.Laws.{next-line-moves}
 use mathlib.Core.Path.{_≡_}
-use Rattle.test_lines.proofs.lines.run.Statement.{statement}
-use Rattle.test_lines.proofs.lines.run.Tie as tie
+use Rattle.test_replay.proofs.lines.run.Statement.{statement}
+use Rattle.test_replay.proofs.lines.run.Tie as tie
 
 abbrev Inv-loop : tie.InvT-loop
 Inv-loop input a₀ b₀ held₀ at₀ a b held at = (length a ≡ length a₀) × (length b ≡ length b₀) × (length held ≡ length held₀)

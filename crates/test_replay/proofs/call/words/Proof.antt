@@ -1,11 +1,11 @@
--- `test_lines::call::words` is safe and ends: the next space is searched behind the last one, so what is left of the call falls. The key keeps its length. Assumes nothing.
+-- `test_replay::call::words` is safe and ends: the next space is searched behind the last one, so what is left of the call falls. The key keeps its length. Assumes nothing.
 use borrow.Author.Needs.{needs}
 use native.Mathlib.Omega.{arith}
 use Prim.Native.Nat.{_-_}
 use lib.ListN.{length}
 use mathlib.Core.Path.{_≡_}
-use Rattle.test_lines.proofs.call.words.Statement.{statement}
-use Rattle.test_lines.proofs.call.words.Tie as tie
+use Rattle.test_replay.proofs.call.words.Statement.{statement}
+use Rattle.test_replay.proofs.call.words.Tie as tie
 
 abbrev Inv-loop : tie.InvT-loop
 Inv-loop call from key₀ c₀ at₀ key c at = length key ≡ length key₀
