@@ -46,7 +46,7 @@ use Rattle.cabi.specs.declared.KindAnswer.{KindAnswer}
 -- ---- A REFUSAL: its number and its values, 0 for each that it does not carry; number 0 where nothing is refused
 
 abbrev pub numbered : ℕ → List ℕ → Numbered
-numbered n vs = record { number = n; first = getD vs 0 0; second = getD vs 1 0 }
+numbered n vs = record { number = n; first = getD vs 0 0; second = getD vs 1 0; third = getD vs 2 0 }
 
 abbrev pub refusal : {A : Type 0} → Answer A → Numbered
 refusal (gives a) = numbered 0 []

@@ -50,6 +50,7 @@ fn none() -> Numbered
         number: 0,
         first: 0,
         second: 0,
+        third: 0,
     }
 }
 
@@ -62,16 +63,25 @@ fn refusal(r: Refusal) -> Numbered
             number,
             first: 0,
             second: 0,
+            third: 0,
         },
         Values::One(first) => Numbered {
             number,
             first,
             second: 0,
+            third: 0,
         },
         Values::Two(first, second) => Numbered {
             number,
             first,
             second,
+            third: 0,
+        },
+        Values::Three(first, second, third) => Numbered {
+            number,
+            first,
+            second,
+            third,
         },
     }
 }

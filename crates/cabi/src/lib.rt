@@ -41,6 +41,7 @@ pub struct Numbered {
     pub number: usize,
     pub first: usize,
     pub second: usize,
+    pub third: usize,
 }
 
 #[repr(C)]

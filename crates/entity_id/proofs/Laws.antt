@@ -8,7 +8,7 @@ use lib.ListN.{length, take, drop, getD, set, length-set}
 use lib.Dec.{eqb, leb}
 use borrow.Author.Tests.{le-leb, lt-leb, leb-true, eq-eqb, ne-eqb, eqb-true}
 use Rattle.bluebook.specs.Layouts.{entityId, beBytes, Entity, entity}
-use Rattle.refusal.specs.Answer.{Answer, gives, refuses, mapA, also, Test}
+use Rattle.refusal.specs.Answer.{Answer, gives, refuses, shortAt, mapA, also, Test}
 use Rattle.refusal.specs.Reader.{Took, took}
 use Rattle.refusal.proofs.Laws.{gives-same, mapped-by, mapA-refused, also-refused, also-passed, also-both, also-assoc, pick-passed}
 use Rattle.splice.specs.Laid.{laid}
@@ -122,13 +122,13 @@ pub valueTest-in : (n len : ℕ) → len + 2 ≤ n → valueTest n len ≡ gives
 unfolding valueTest
 valueTest-in n len h = simp (le-leb _ _ h)
 
-pub valueTest-short : (n len : ℕ) → n < len + 2 → valueTest n len ≡ refuses 1 (n ∷ (len + 2) ∷ [])
+pub valueTest-short : (n len : ℕ) → n < len + 2 → valueTest n len ≡ shortAt 0 n (len + 2)
 unfolding valueTest
 valueTest-short n len h = simp (lt-leb _ _ h)
 
 pub valueTest-passed : (n len : ℕ) → gives tt ≡ valueTest n len → len + 2 ≤ n
 unfolding valueTest
-valueTest-passed n len e = leb-true _ _ (pick-passed (leb (len + 2) n) 1 (n ∷ (len + 2) ∷ []) e)
+valueTest-passed n len e = leb-true _ _ (pick-passed (leb (len + 2) n) 1 (n ∷ (len + 2) ∷ 0 ∷ []) e)
 
 -- ---- reading
 
@@ -148,7 +148,7 @@ module _ (bs : List ℕ) where
       readEntity-width n vs e = rw (← head, ← type, ← e)
 
       module _ (wide : gives tt ≡ widthTest (getD bs 1 0)) where
-        pub readEntity-short : length bs < getD bs 1 0 + 2 → readEntity bs ≡ refuses 1 (length bs ∷ (getD bs 1 0 + 2) ∷ [])
+        pub readEntity-short : length bs < getD bs 1 0 + 2 → readEntity bs ≡ shortAt 0 (length bs) (getD bs 1 0 + 2)
         unfolding readEntity takeEntity
         readEntity-short h = rw (← head, ← type, ← wide, valueTest-short (length bs) (getD bs 1 0) h)
 

@@ -259,7 +259,11 @@ impl EntityIdTlv {
         }
         let expected = width + 2;
         if n < expected {
-            return EntityIdRead::Refused(Refusal::FromSliceTooSmall { found: n, expected });
+            return EntityIdRead::Refused(Refusal::FromSliceTooSmall {
+                found: n,
+                expected,
+                place: 0,
+            });
         }
         EntityIdRead::Read(EntityIdTlv {
             entity_id: UnsignedByteField { width, value },

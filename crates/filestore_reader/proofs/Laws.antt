@@ -10,7 +10,7 @@ use lib.Seq.{slice, slice-cons, slice-empty, length-slice}
 use lib.Dec.{ltb}
 use borrow.Author.Tests.{lt-ltb, le-ltb, ltb-true, ltb-false, ne-eqb}
 use Rattle.bluebook.specs.Layouts.{actions, secondPresent, lv, lvIf}
-use Rattle.refusal.specs.Answer.{Answer, gives, refuses, pick, mapA, andThen, also, Test}
+use Rattle.refusal.specs.Answer.{Answer, gives, refuses, shortAt, pick, mapA, andThen, also, Test}
 use Rattle.refusal.specs.Reader.{Took, took, Reader, Exactly}
 use Rattle.refusal.proofs.Laws.{mapped-by, mapA-refused, mapA-mapA}
 use Rattle.refusal.proofs.Readers.{rest-at}
@@ -44,8 +44,8 @@ module _ (bs : List ℕ) (at end : ℕ) where
   pub readIfAt-lv : at ≤ end → end ≤ length bs → readIfAt bs at end true ≡ mapA There (readLvAt bs at end)
   unfolding readIfAt takeIf
   readIfAt-lv h k =
-      mapA-mapA (λ t. secondAt at (t .got)) (λ t. took (some (t .got)) (t .rest)) (takeLv (slice at end bs))
-      ∙ sym (mapA-mapA There (λ t. span (at + 1) (length (t .got))) (takeLv (slice at end bs)))
+      mapA-mapA (λ t. secondAt at (t .got)) (λ t. took (some (t .got)) (t .rest)) (takeLv at (slice at end bs))
+      ∙ sym (mapA-mapA There (λ t. span (at + 1) (length (t .got))) (takeLv at (slice at end bs)))
       ∙ ap (mapA There) (sym (readLvAt-in bs at end k h))
 
   pub readSecondAt-not : readSecondAt bs at end false ≡ gives Absent
@@ -113,19 +113,19 @@ behind {read} tie bs at end s h k e =
     }
 
 module _ (bs : List ℕ) (at end : ℕ) (h : at ≤ end) (k : end ≤ length bs) where
-  pub behind-if : (d : Bool) (s : SecondName) → gives s ≡ readIfAt bs at end d → Behind (takeIf d) bs at end s
+  pub behind-if : (d : Bool) (s : SecondName) → gives s ≡ readIfAt bs at end d → Behind (takeIf d at) bs at end s
   unfolding readIfAt
-  behind-if d s e = behind (exactly-if d) bs at end s h k (sym e)
+  behind-if d s e = behind (exactly-if d at) bs at end s h k (sym e)
 
-  pub behind-second : (d : Bool) (s : SecondName) → gives s ≡ readSecondAt bs at end d → Behind (takeSecond d) bs at end s
+  pub behind-second : (d : Bool) (s : SecondName) → gives s ≡ readSecondAt bs at end d → Behind (takeSecond d at) bs at end s
   unfolding readSecondAt
-  behind-second d s e = behind (exactly-second d) bs at end s h k (sym e)
+  behind-second d s e = behind (exactly-second d at) bs at end s h k (sym e)
 
   -- ---- the message
 
   pub readMessageAt-refused : (names : FilestoreTlvBase) (d : Bool) (n : ℕ) (vs : List ℕ) → refuses n vs ≡ readIfAt bs at end d → refuses n vs ≡ readMessageAt bs at end names d
   unfolding readIfAt readMessageAt
-  readMessageAt-refused names d n vs e = ap (mapA _) (mapA-refused (λ t. secondAt at (t .got)) (takeIf d (slice at end bs)) n vs e)
+  readMessageAt-refused names d n vs e = ap (mapA _) (mapA-refused (λ t. secondAt at (t .got)) (takeIf d at (slice at end bs)) n vs e)
 
   pub readMessageAt-found : (names : FilestoreTlvBase) (d : Bool) (s : SecondName) → gives s ≡ readIfAt bs at end d
       → gives (foundOf (withMessage names s) (end - endIf at s)) ≡ readMessageAt bs at end names d
@@ -146,16 +146,16 @@ module _ (bs : List ℕ) (end : ℕ) (a : FilestoreActionCode) (low : ℕ) (f : 
   pub readBehind-refused : (n : ℕ) (vs : List ℕ) → refuses n vs ≡ readSecondAt bs (endOf f) end (dueOf a) → refuses n vs ≡ readBehind bs end a low f d
   unfolding readSecondAt readBehind
   readBehind-refused n vs e =
-      ap (λ (x : Answer (Took (Option (List ℕ)))). andThen x (λ s. mapA (with-second (s .got)) (takeIf d (s .rest))))
-      (mapA-refused (λ t. secondAt (endOf f) (t .got)) (takeSecond (dueOf a) (slice (endOf f) end bs)) n vs e)
+      ap (λ (x : Answer (Took (Option (List ℕ)))). andThen x (λ s. mapA (with-second (s .got)) (takeIf d (endOf f + length (lvIf (s .got))) (s .rest))))
+      (mapA-refused (λ t. secondAt (endOf f) (t .got)) (takeSecond (dueOf a) (endOf f) (slice (endOf f) end bs)) n vs e)
 
   pub readBehind-second : (s : SecondName) → gives s ≡ readSecondAt bs (endOf f) end (dueOf a)
       → readMessageAt bs (endIf (endOf f) s) end (baseOf a low f s Absent) d ≡ readBehind bs end a low f d
   unfolding readMessageAt readBehind
   readBehind-second s e =
       let b = behind-second bs (endOf f) end h k (dueOf a) s e in
-      (λ i. mapA (λ (t : Took (Option (List ℕ))). foundOf (baseOf a low f (b .is i) (secondAt (b .place i) (t .got))) (length (t .rest))) (takeIf d (slice (endIf (endOf f) s) end bs)))
-      ∙ sym (ap (λ (x : Answer (Took (Option (List ℕ)))). andThen x (λ s. mapA (with-second (s .got)) (takeIf d (s .rest)))) (b .taken))
+      (λ i. mapA (λ (t : Took (Option (List ℕ))). foundOf (baseOf a low f (b .is i) (secondAt (b .place i) (t .got))) (length (t .rest))) (takeIf d (b .place i) (slice (endIf (endOf f) s) end bs)))
+      ∙ sym (ap (λ (x : Answer (Took (Option (List ℕ)))). andThen x (λ s. mapA (with-second (s .got)) (takeIf d (endOf f + length (lvIf (s .got))) (s .rest)))) (b .taken))
 
 -- ---- behind the first byte
 
@@ -164,16 +164,16 @@ unfolding readNames
 readNames-is bs end a low d = refl
 
 -- no first name, whatever the action
-pub readNames-none : (bs : List ℕ) (end : ℕ) (a : FilestoreActionCode) (low : ℕ) (d : Bool) → end ≡ 3 → end ≤ length bs → readNames bs end a low d ≡ refuses 1 (0 ∷ 1 ∷ [])
+pub readNames-none : (bs : List ℕ) (end : ℕ) (a : FilestoreActionCode) (low : ℕ) (d : Bool) → end ≡ 3 → end ≤ length bs → readNames bs end a low d ≡ shortAt 3 0 1
 readNames-none bs end a low d e k =
     let z : end - 3 ≡ 0 = omega arith in
     sym (readNames-is bs end a low d)
-    ∙ ap (λ (y : Answer Lv). andThen y (λ f. readBehind bs end a low f d)) (readLvAt-none bs 3 end k (omega arith) (omega arith) ∙ ap (λ (n : ℕ). refuses 1 (n ∷ 1 ∷ [])) z)
+    ∙ ap (λ (y : Answer Lv). andThen y (λ f. readBehind bs end a low f d)) (readLvAt-none bs 3 end k (omega arith) (omega arith) ∙ ap (λ (n : ℕ). shortAt 3 n 1) z)
 
 -- ---- the value
 
 module _ (bs : List ℕ) (end : ℕ) (d : Bool) where
-  pub readValue-none : end ≡ 2 → readValue bs end d ≡ refuses 1 (0 ∷ 1 ∷ [])
+  pub readValue-none : end ≡ 2 → readValue bs end d ≡ shortAt 2 0 1
   unfolding readValue takeValue takeOctet
   readValue-none e = rw (e, slice-empty 2 bs)
 
@@ -186,33 +186,33 @@ module _ (bs : List ℕ) (end : ℕ) (d : Bool) where
 
     -- the value, once the second name and the message are read from what stands behind the first name
     tail : List ℕ → List ℕ → Answer (Took Filed)
-    tail v rest = andThen (takeSecond (secondPresent (o / 16)) rest) (λ s. mapA (λ m. took (filed (o / 16) (o % 16) v (s .got) (m .got)) (m .rest)) (takeIf d (s .rest)))
+    tail v rest = andThen (takeSecond (secondPresent (o / 16)) (4 + length v) rest) (λ s. mapA (λ m. took (filed (o / 16) (o % 16) v (s .got) (m .got)) (m .rest)) (takeIf d (4 + length v + length (lvIf (s .got))) (s .rest)))
 
     tail-is : (v : List ℕ) (x : Answer (Took (Option (List ℕ))))
-        → mapA found (andThen x (λ s. mapA (λ m. took (filed (o / 16) (o % 16) v (s .got) (m .got)) (m .rest)) (takeIf d (s .rest))))
-        ≡ andThen x (λ s. mapA (λ t. foundOf (baseOf a (o % 16) (span 4 (length v)) (secondAt (4 + length v) (s .got)) (secondAt (4 + length v + length (lvIf (s .got))) (t .got))) (length (t .rest))) (takeIf d (s .rest)))
+        → mapA found (andThen x (λ s. mapA (λ m. took (filed (o / 16) (o % 16) v (s .got) (m .got)) (m .rest)) (takeIf d (4 + length v + length (lvIf (s .got))) (s .rest))))
+        ≡ andThen x (λ s. mapA (λ t. foundOf (baseOf a (o % 16) (span 4 (length v)) (secondAt (4 + length v) (s .got)) (secondAt (4 + length v + length (lvIf (s .got))) (t .got))) (length (t .rest))) (takeIf d (4 + length v + length (lvIf (s .got))) (s .rest)))
     tail-is v (refuses n vs) = refl
-    tail-is v (gives s) = mapA-mapA found (λ m. took (filed (o / 16) (o % 16) v (s .got) (m .got)) (m .rest)) (takeIf d (s .rest))
+    tail-is v (gives s) = mapA-mapA found (λ m. took (filed (o / 16) (o % 16) v (s .got) (m .got)) (m .rest)) (takeIf d (4 + length v + length (lvIf (s .got))) (s .rest))
 
     known : o / 16 < length actions → readValue bs end d ≡ readNames bs end a (o % 16) d
     unfolding readValue takeValue takeOctet readNames readBehind tail
     known q =
         ap (λ (l : List ℕ). mapA found (takeValue d l)) (slice-cons 2 end bs 0 h k)
         ∙ simp (lt-ltb (o / 16) (length actions) q)
-        (go (takeLv (slice 3 end bs)) refl)
+        (go (takeLv 3 (slice 3 end bs)) refl)
       where
-        go : (x : Answer (Took (List ℕ))) → takeLv (slice 3 end bs) ≡ x
+        go : (x : Answer (Took (List ℕ))) → takeLv 3 (slice 3 end bs) ≡ x
             → mapA found (andThen x (λ f. tail (f .got) (f .rest))) ≡ andThen (readLvAt bs 3 end) (λ f. readBehind bs end a (o % 16) f d)
         go (refuses n vs) e = sym (ap (λ (y : Answer Lv). andThen y (λ f. readBehind bs end a (o % 16) f d)) (readLvAt-in bs 3 end k (omega arith) ∙ ap (mapA _) e))
         go (gives t) e =
             let v = t .got in
-            let r = rest-at bs (lv v) (t .rest) 3 end (omega arith) k (exactly-lv .only (slice 3 end bs) t e .1) in
+            let r = rest-at bs (lv v) (t .rest) 3 end (omega arith) k (exactly-lv 3 .only (slice 3 end bs) t e .1) in
             let n : 3 + length (lv v) ≡ 4 + length v = omega arith in
             let s : t .rest ≡ slice (4 + length v) end bs = r .1 ∙ ap (λ (m : ℕ). slice m end bs) n in
             let w : secondPresent (o / 16) ≡ dueOf a = ap secondPresent (sym (code-back (o / 16) q)) in
             ap (λ (l : List ℕ). mapA found (tail v l)) s
-            ∙ tail-is v (takeSecond (secondPresent (o / 16)) (slice (4 + length v) end bs))
-            ∙ ap (λ (b : Bool). andThen (takeSecond b (slice (4 + length v) end bs)) (λ s. mapA (λ t. foundOf (baseOf a (o % 16) (span 4 (length v)) (secondAt (4 + length v) (s .got)) (secondAt (4 + length v + length (lvIf (s .got))) (t .got))) (length (t .rest))) (takeIf d (s .rest)))) w
+            ∙ tail-is v (takeSecond (secondPresent (o / 16)) (4 + length v) (slice (4 + length v) end bs))
+            ∙ ap (λ (b : Bool). andThen (takeSecond b (4 + length v) (slice (4 + length v) end bs)) (λ s. mapA (λ t. foundOf (baseOf a (o % 16) (span 4 (length v)) (secondAt (4 + length v) (s .got)) (secondAt (4 + length v + length (lvIf (s .got))) (t .got))) (length (t .rest))) (takeIf d (4 + length v + length (lvIf (s .got))) (s .rest)))) w
             ∙ sym (ap (λ (y : Answer Lv). andThen y (λ f. readBehind bs end a (o % 16) f d)) (readLvAt-in bs 3 end k (omega arith) ∙ ap (mapA _) e))
 
     none-such : length actions ≤ o / 16 → readValue bs end d ≡ refuses 7 (o / 16 ∷ [])

@@ -6,20 +6,23 @@ use native.Mathlib.Omega.{arith}
 use mathlib.Core.Bool.{Bool, true, false}
 use mathlib.Core.Option.{Option, some, none}
 use mathlib.Core.List.{List, [], _∷_, _++_, append-assoc, append-nil}
-use lib.ListN.{length, drop, length-append}
-use lib.Dec.{ltb}
+use lib.ListN.{length, drop, getD, length-append}
+use lib.Dec.{leb, ltb}
 use Rattle.bluebook.specs.Layouts.{Octets, actions, secondPresent, there, lv, lvIf, tlv}
-use Rattle.refusal.specs.Answer.{Answer, gives, mapA, andThen, RefusedBy, limitTest}
+use Rattle.refusal.specs.Answer.{Answer, gives, mapA, andThen, RefusedBy, ShortBy, limitTest}
 use Rattle.refusal.specs.Reader.{Took, took, Exactly}
-use Rattle.refusal.proofs.Laws.{also-both, pick-passed, refused-pick, refused-map, refused-then, limit-passed, mapped-by, mapA-mapA}
+use Rattle.refusal.proofs.Laws.{also-both, pick-passed, refused-pick, refused-map, refused-then, short-here, short-given, short-other, short-pick, short-map, short-then, short-test, short-limit, short-so, limit-passed, mapped-by, mapA-mapA}
 use Rattle.refusal.proofs.Once.{refusalOf-refused, untold, one-told}
 use Rattle.refusal.proofs.Readers.{exactly-tested}
 use Rattle.splice.specs.Writing.{Wrote}
 use Rattle.splice.proofs.Writing.{left-by}
 use Rattle.lv.specs.Rules.{span, partOf, takeLv}
-use Rattle.lv.proofs.Laws.{spanTest-in, takeLv-refusals}
-use Rattle.lv.proofs.Theorems.{selects}
-use Rattle.tlv.proofs.Theorems.{exactly-of}
+use Rattle.lv.specs.Short.{ShortLv}
+use Rattle.lv.proofs.Laws.{spanTest-in, takeLv-refusals, lv-runs-short}
+use Rattle.lv.proofs.Theorems.{selects, exactly-lv}
+use Rattle.tlv.specs.Rules.{takeOf}
+use Rattle.tlv.specs.Short.{ShortPart, ShortTlv}
+use Rattle.tlv.proofs.Theorems.{exactly-of, of-type-runs-short}
 use Rattle.action.specs.Rules.{codeOf, dueOf}
 use Rattle.action.specs.declared.FilestoreActionCode.{FilestoreActionCode}
 use Rattle.action.proofs.Laws.{code-back, code-known}
@@ -28,12 +31,12 @@ use Rattle.filestore_base.specs.Rules.{spanIf, lenOf, writeTest, writeBase, sam
 use Rattle.filestore_base.specs.declared.FilestoreTlvBase.{FilestoreTlvBase}
 use Rattle.filestore_base.proofs.Laws.{Spans, there-if, length-value, writable, write-passed}
 use Rattle.filestore_base.proofs.Theorems.{Buildable, builds, same-means}
-use Rattle.filestore_reader.specs.Rules.{takeOctet, takeIf, takeSecond, takeValue, takeFiled, takeStrict, foundOf, found, readBase, lowBitsTest, leftTest, statusListed, listedTest, strictTest}
+use Rattle.filestore_reader.specs.Rules.{takeOctet, takeIf, takeSecond, takeValue, takeFiled, takeStrict, foundOf, found, readBase, lowBitsTest, leftTest, statusListed, listedTest, strictTest, strictBase}
 use Rattle.filestore_reader.specs.Told.{toldFound}
 use Rattle.filestore_reader.specs.declared.Found.{Found}
 use Rattle.filestore_reader.specs.declared.FoundRead.{FoundRead}
 use Rattle.filestore_reader.specs.declared.FoundRead.the-variants.{Read, Refused}
-use Rattle.filestore_reader.proofs.Exact.{FiledOk, exactly-filed}
+use Rattle.filestore_reader.proofs.Exact.{FiledOk, exactly-octet, exactly-second, exactly-filed}
 
 -- a request or response, with what is left of its value and what stands behind it
 abbrev pub stands : Bool → Filed → List ℕ → List ℕ → List ℕ
@@ -238,16 +241,16 @@ read-alone response v rest =
 -- ---- THE REFUSALS OF A VALUE are 1, 6 and 7
 
 module _ (P : ℕ → Type 0) (one : P 1) where
-  if-refusals : (wanted : Bool) (bs : List ℕ) → RefusedBy P (takeIf wanted bs)
+  if-refusals : (wanted : Bool) (at : ℕ) (bs : List ℕ) → RefusedBy P (takeIf wanted at bs)
   unfolding takeIf
-  if-refusals false bs = tt
-  if-refusals true bs = refused-map P _ (takeLv bs) (takeLv-refusals P one bs)
+  if-refusals false at bs = tt
+  if-refusals true at bs = refused-map P _ (takeLv at bs) (takeLv-refusals at P one bs)
 
-  second-refusals : P 6 → (due : Bool) (bs : List ℕ) → RefusedBy P (takeSecond due bs)
+  second-refusals : P 6 → (due : Bool) (at : ℕ) (bs : List ℕ) → RefusedBy P (takeSecond due at bs)
   unfolding takeSecond
-  second-refusals six false bs = if-refusals false bs
-  second-refusals six true [] = six
-  second-refusals six true (x ∷ bs) = if-refusals true (x ∷ bs)
+  second-refusals six false at bs = if-refusals false at bs
+  second-refusals six true at [] = six
+  second-refusals six true at (x ∷ bs) = if-refusals true at (x ∷ bs)
 
   octet-refusals : P 7 → (bs : List ℕ) → RefusedBy P (takeOctet bs)
   unfolding takeOctet
@@ -258,9 +261,79 @@ module _ (P : ℕ → Type 0) (one : P 1) where
   unfolding takeValue
   value-refusals six seven response v =
       refused-then P (takeOctet v) _ (octet-refusals seven v) (λ o.
-      refused-then P (takeLv (o .rest)) _ (takeLv-refusals P one (o .rest)) (λ f.
-      refused-then P (takeSecond (secondPresent (o .got .action)) (f .rest)) _ (second-refusals six (secondPresent (o .got .action)) (f .rest)) (λ s.
-      refused-map P _ (takeIf response (s .rest)) (if-refusals response (s .rest)))))
+      refused-then P (takeLv 3 (o .rest)) _ (takeLv-refusals 3 P one (o .rest)) (λ f.
+      refused-then P (takeSecond (secondPresent (o .got .action)) (4 + length (f .got)) (f .rest)) _ (second-refusals six (secondPresent (o .got .action)) (4 + length (f .got)) (f .rest)) (λ s.
+      refused-map P _ (takeIf response (4 + length (f .got) + length (lvIf (s .got))) (s .rest)) (if-refusals response (4 + length (f .got) + length (lvIf (s .got))) (s .rest)))))
+
+-- ---- WHERE IT RAN SHORT: at 0 where the TLV is not all there; else at the part of the value that ran short, and what was found of it reaches to
+-- the value's end
+
+if-runs-short : (wanted : Bool) (at : ℕ) (bs : List ℕ) → ShortBy (ShortLv at (at + length bs)) (takeIf wanted at bs)
+unfolding takeIf
+if-runs-short false at bs = short-given _
+if-runs-short true at bs = short-map _ (takeLv at bs) (lv-runs-short at bs)
+
+second-runs-short : (due : Bool) (at : ℕ) (bs : List ℕ) → ShortBy (ShortLv at (at + length bs)) (takeSecond due at bs)
+unfolding takeSecond
+second-runs-short false at bs = if-runs-short false at bs
+second-runs-short true at [] = short-other 6 [] (λ e. omega arith)
+second-runs-short true at (x ∷ bs) = if-runs-short true at (x ∷ bs)
+
+octet-runs-short : (bs : List ℕ) → ShortBy (ShortPart (length bs)) (takeOctet bs)
+unfolding takeOctet
+octet-runs-short [] = short-here 2 0 1 (record { behind = omega arith; reaches = refl; more = omega arith })
+octet-runs-short (o ∷ bs) = short-pick (ltb (o / 16) (length actions)) _ _ (λ _. short-given _) (λ _. short-other 7 _ (λ e. omega arith))
+
+-- an LV behind the first byte, up to the value's end
+part-of : {A : Type 0} (n at k : ℕ) (a : Answer A) → 2 ≤ at → at + k ≡ 2 + n → ShortBy (ShortLv at (at + k)) a → ShortBy (ShortPart n) a
+part-of n at k a b e h = short-so a (λ p f x l. record { behind = omega (arith, l .starts); reaches = l .reaches ∙ e; more = l .more }) h
+
+pub value-runs-short : (response : Bool) (v : List ℕ) → ShortBy (ShortPart (length v)) (takeValue response v)
+unfolding takeValue
+value-runs-short response v =
+    short-then (takeOctet v) _ (octet-runs-short v) (λ o p.
+    let i = ap length (exactly-octet .only v o p .1) in
+    short-then (takeLv 3 (o .rest)) _ (part-of n 3 (length (o .rest)) (takeLv 3 (o .rest)) (omega arith) (omega arith) (lv-runs-short 3 (o .rest))) (λ f q.
+    let j = ap length (exactly-lv 3 .only (o .rest) f q .1) ∙ length-append (lv (f .got)) (f .rest) in
+    let at : ℕ = 4 + length (f .got) in
+    let due = secondPresent (o .got .action) in
+    short-then (takeSecond due (4 + length (f .got)) (f .rest)) _ (part-of n at (length (f .rest)) (takeSecond due at (f .rest)) (omega arith) (omega arith) (second-runs-short due at (f .rest))) (λ s r.
+    let k = ap length (exactly-second due at .only (f .rest) s r .1) ∙ length-append (lvIf (s .got)) (s .rest) in
+    let m : ℕ = 4 + length (f .got) + length (lvIf (s .got)) in
+    short-map _ (takeIf response m (s .rest)) (part-of n m (length (s .rest)) (takeIf response m (s .rest)) (omega arith) (omega arith) (if-runs-short response m (s .rest))))))
+  where
+    n : ℕ
+    n = length v
+
+-- of the value of a TLV that is all there
+part-there : {A : Type 0} (bs : List ℕ) (t : ℕ) (v rest : List ℕ) (a : Answer A) → bs ≡ tlv t v ++ rest → ShortBy (ShortPart (length v)) a → ShortBy (ShortTlv bs) a
+part-there bs t v rest a e h =
+    let len : getD bs 1 0 ≡ length v = ap (λ (l : List ℕ). getD l 1 0) e in
+    let size : length bs ≡ 2 + (length v + length rest) = omega (arith, ap length e, length-append v rest) in
+    short-so a (λ p f x l. record { itself = λ w. absurd (w (omega arith)); within = λ _. subst (λ (n : ℕ). ShortPart n p f x) (sym len) l }) h
+
+pub filed-runs-short : (response : Bool) (bs : List ℕ) → ShortBy (ShortTlv bs) (takeFiled response bs)
+filed-runs-short response bs =
+    short-then (takeOf (kindOf response) bs) _ (of-type-runs-short (kindOf response) bs) (λ f e.
+    short-map _ (takeValue response (f .got))
+    (part-there bs (kindOf response) (f .got) (f .rest) (takeValue response (f .got)) (exactly-of (kindOf response) .only bs f e .1) (value-runs-short response (f .got))))
+
+pub base-runs-short : (response : Bool) (bs : List ℕ) → ShortBy (ShortTlv bs) (readBase response bs)
+unfolding readBase
+base-runs-short response bs = short-map _ (takeFiled response bs) (filed-runs-short response bs)
+
+-- strict reading's tests refuse with 11, 12 or 13
+test-runs-short : {P : ℕ → ℕ → ℕ → Type 0} (response : Bool) (a l k : ℕ) → ShortBy P (strictTest response a l k)
+unfolding listedTest
+test-runs-short false a l k = short-then (lowBitsTest l) _ (short-limit 11 0 l (λ e. omega arith)) (λ _ _. short-limit 12 0 k (λ e. omega arith))
+test-runs-short true a l k = short-then (leftTest k) _ (short-limit 12 0 k (λ e. omega arith)) (λ _ _. short-test (statusListed a l) 13 _ (λ e. omega arith))
+
+pub strict-runs-short : (response : Bool) (bs : List ℕ) → ShortBy (ShortTlv bs) (strictBase response bs)
+unfolding strictBase
+strict-runs-short response bs =
+    short-map _ (takeStrict response bs)
+    (short-then (takeFiled response bs) _ (filed-runs-short response bs) (λ t _.
+    short-then (strictTest response (t .got .got .action) (t .got .got .low) (length (t .got .rest))) _ (test-runs-short response _ _ _) (λ _ _. short-given _)))
 
 -- ---- ONE ANSWER: of `from_bytes` and `from_bytes_strict`
 

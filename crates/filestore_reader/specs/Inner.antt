@@ -19,10 +19,10 @@ use Rattle.filestore_reader.specs.Rules.{takeIf, takeSecond, takeValue, 
 use Rattle.filestore_reader.specs.declared.Found.{Found}
 
 unfoldable pub readIfAt : List ℕ → ℕ → ℕ → Bool → Answer SecondName
-readIfAt bs at end wanted = mapA (λ t. secondAt at (t .got)) (takeIf wanted (slice at end bs))
+readIfAt bs at end wanted = mapA (λ t. secondAt at (t .got)) (takeIf wanted at (slice at end bs))
 
 unfoldable pub readSecondAt : List ℕ → ℕ → ℕ → Bool → Answer SecondName
-readSecondAt bs at end due = mapA (λ t. secondAt at (t .got)) (takeSecond due (slice at end bs))
+readSecondAt bs at end due = mapA (λ t. secondAt at (t .got)) (takeSecond due at (slice at end bs))
 
 -- what is left, if anything is
 unfoldable pub leftBefore : ℕ → ℕ → SecondName
@@ -38,13 +38,13 @@ abbrev pub withMessage : FilestoreTlvBase → SecondName → FilestoreTlvBase
 withMessage b m = baseOf (b .«action_code») (b .«low_bits») (b .«first_name») (b .«second_name») m
 
 unfoldable pub readMessageAt : List ℕ → ℕ → ℕ → FilestoreTlvBase → Bool → Answer Found
-readMessageAt bs at end names response = mapA (λ t. foundOf (withMessage names (secondAt at (t .got))) (length (t .rest))) (takeIf response (slice at end bs))
+readMessageAt bs at end names response = mapA (λ t. foundOf (withMessage names (secondAt at (t .got))) (length (t .rest))) (takeIf response at (slice at end bs))
 
 -- behind the first name
 unfoldable pub readBehind : List ℕ → ℕ → FilestoreActionCode → ℕ → Lv → Bool → Answer Found
 readBehind bs end a low f response =
-    andThen (takeSecond (dueOf a) (slice (endOf f) end bs)) (λ s.
-    mapA (λ t. foundOf (baseOf a low f (secondAt (endOf f) (s .got)) (secondAt (endOf f + length (lvIf (s .got))) (t .got))) (length (t .rest))) (takeIf response (s .rest)))
+    andThen (takeSecond (dueOf a) (endOf f) (slice (endOf f) end bs)) (λ s.
+    mapA (λ t. foundOf (baseOf a low f (secondAt (endOf f) (s .got)) (secondAt (endOf f + length (lvIf (s .got))) (t .got))) (length (t .rest))) (takeIf response (endOf f + length (lvIf (s .got))) (s .rest)))
 
 -- behind the value's first byte
 unfoldable pub readNames : List ℕ → ℕ → FilestoreActionCode → ℕ → Bool → Answer Found

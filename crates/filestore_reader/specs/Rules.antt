@@ -1,12 +1,12 @@
 -- What reading a filestore request or response answers, for all bytes: document 01's list, in its order, and strict reading behind it.
-use Prim.Native.Nat.{ℕ, _/_, _%_}
+use Prim.Native.Nat.{ℕ, _+_, _/_, _%_}
 use mathlib.Core.Bool.{Bool, true, false, _||_}
 use mathlib.Core.Option.{Option, some, none}
 use mathlib.Core.List.{List, [], _∷_}
 use lib.ListN.{length}
 use lib.Dec.{ltb, eqb}
-use Rattle.bluebook.specs.Layouts.{actions, secondPresent}
-use Rattle.refusal.specs.Answer.{Answer, gives, refuses, pick, mapA, andThen, also, Test, limitTest}
+use Rattle.bluebook.specs.Layouts.{actions, secondPresent, lvIf}
+use Rattle.refusal.specs.Answer.{Answer, gives, refuses, shortAt, pick, mapA, andThen, also, Test, limitTest}
 use Rattle.refusal.specs.Reader.{Reader, Took, took, inside, tested}
 use Rattle.lv.specs.Rules.{takeLv}
 use Rattle.tlv.specs.Rules.{takeOf}
@@ -14,7 +14,7 @@ use Rattle.filestore_base.specs.Meaning.{Filed, filed, kindOf, placed}
 use Rattle.filestore_base.specs.declared.FilestoreTlvBase.{FilestoreTlvBase}
 use Rattle.filestore_reader.specs.declared.Found.{Found}
 
--- ---- THE VALUE, in order
+-- ---- THE VALUE, in order. It starts at the place 2 of its TLV, and refusal 1 tells the place of the part that is short
 
 pub record Octet : Type 0 where
   pub action : ℕ
@@ -23,31 +23,31 @@ pub record Octet : Type 0 where
 abbrev pub octet : ℕ → ℕ → Octet
 octet a l = record { action = a; low = l }
 
--- empty value 1 (0, 1); action 9 to 15 gives 7
+-- empty value 1 (0, 1), place 2; action 9 to 15 gives 7
 unfoldable pub takeOctet : Reader Octet
-takeOctet [] = refuses 1 (0 ∷ 1 ∷ [])
+takeOctet [] = shortAt 2 0 1
 takeOctet (o ∷ bs) = pick (ltb (o / 16) (length actions)) (gives (took (octet (o / 16) (o % 16)) bs)) (refuses 7 (o / 16 ∷ []))
 
--- an LV, where one is wanted
-unfoldable pub takeIf : Bool → Reader (Option (List ℕ))
-takeIf false bs = gives (took none bs)
-takeIf true bs = mapA (λ t. took (some (t .got)) (t .rest)) (takeLv bs)
+-- an LV at a place, where one is wanted
+unfoldable pub takeIf : Bool → ℕ → Reader (Option (List ℕ))
+takeIf false at bs = gives (took none bs)
+takeIf true at bs = mapA (λ t. took (some (t .got)) (t .rest)) (takeLv at bs)
 
 -- where a second name is due and nothing is left, 6; second name as LV
-unfoldable pub takeSecond : Bool → Reader (Option (List ℕ))
-takeSecond false bs = takeIf false bs
-takeSecond true [] = refuses 6 []
-takeSecond true (x ∷ bs) = takeIf true (x ∷ bs)
+unfoldable pub takeSecond : Bool → ℕ → Reader (Option (List ℕ))
+takeSecond false at bs = takeIf false at bs
+takeSecond true at [] = refuses 6 []
+takeSecond true at (x ∷ bs) = takeIf true at (x ∷ bs)
 
--- first byte, first name, second name where it is due, and a response's message
+-- first byte, first name, second name where it is due, and a response's message: each LV at the place behind what stands before it
 unfoldable pub takeValue : Bool → Reader Filed
 takeValue response bs =
     andThen (takeOctet bs) (λ o.
-    andThen (takeLv (o .rest)) (λ f.
-    andThen (takeSecond (secondPresent (o .got .action)) (f .rest)) (λ s.
-    mapA (λ m. took (filed (o .got .action) (o .got .low) (f .got) (s .got) (m .got)) (m .rest)) (takeIf response (s .rest)))))
+    andThen (takeLv 3 (o .rest)) (λ f.
+    andThen (takeSecond (secondPresent (o .got .action)) (4 + length (f .got)) (f .rest)) (λ s.
+    mapA (λ m. took (filed (o .got .action) (o .got .low) (f .got) (s .got) (m .got)) (m .rest)) (takeIf response (4 + length (f .got) + length (lvIf (s .got))) (s .rest)))))
 
--- ---- PLAIN READING: a TLV of the type, with 1 (n, 2), 3, 1 (n, 2 + L); then its value, and the bytes that are left in it
+-- ---- PLAIN READING: a TLV of the type, with 1 (n, 2), 3, 1 (n, 2 + L), place 0; then its value, and the bytes that are left in it
 
 abbrev pub takeFiled : Bool → Reader (Took Filed)
 takeFiled response = inside (takeOf (kindOf response)) (takeValue response)

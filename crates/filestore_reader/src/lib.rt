@@ -12,10 +12,9 @@ use refusal::Length;
 use refusal::Refusal;
 use tlv::Tlv;
 ghost use mathlib.Core.Path.{_≡_};
-ghost use mathlib.Core.List.{[], _∷_};
 ghost use Prim.Native.Nat.{_≤_, _<_};
 ghost use lib.ListN.{length};
-ghost use Rattle.refusal.specs.Answer.{refuses};
+ghost use Rattle.refusal.specs.Answer.{shortAt};
 ghost use Rattle.refusal.specs.Told.{toldChecked};
 ghost use Rattle.action.specs.Rules.{codeOf, dueOf};
 ghost use Rattle.filestore_base.specs.Meaning.{endOf};
@@ -178,12 +177,13 @@ fn behind_octet(
 }
 
 // Refusal 1, for a byte that is not there.
-fn no_byte() -> FoundRead
-    ensures { λ r. ⌜ toldFound r ≡ refuses 1 (0 ∷ 1 ∷ []) ⌝ }
+fn no_byte(place: usize) -> FoundRead
+    ensures { λ r. ⌜ toldFound r ≡ shortAt place 0 1 ⌝ }
 {
     FoundRead::Refused(Refusal::FromSliceTooSmall {
         found: 0,
         expected: 1,
+        place,
     })
 }
 
@@ -193,11 +193,11 @@ fn nameless(buf: &[u8], end: usize, response: bool) -> FoundRead
     ensures { λ r. ⌜ toldFound r ≡ readValue (now (buf .entry)) end response ⌝ }
 {
     if end == 2 {
-        return no_byte();
+        return no_byte(2);
     }
     match FilestoreActionCode::from_code(buf[2] / 16) {
         ActionCodeRead::Refused(r) => FoundRead::Refused(r),
-        ActionCodeRead::Read(_) => no_byte(),
+        ActionCodeRead::Read(_) => no_byte(3),
     }
 }
 

@@ -9,15 +9,16 @@ use mathlib.Core.Option.{Option, some, none}
 use mathlib.Core.List.{List, [], _++_, append-nil}
 use lib.ListN.{length, drop}
 use Rattle.bluebook.specs.Layouts.{Octets, Named, there, Response, response, responseValue, Responded, tlv, filestoreResponse}
-use Rattle.refusal.specs.Answer.{Answer, gives, mapA}
+use Rattle.refusal.specs.Answer.{Answer, gives, mapA, ShortBy}
 use Rattle.refusal.specs.Reader.{Took, took, Exactly, Begins}
-use Rattle.refusal.proofs.Laws.{mapped-by, mapA-mapA}
+use Rattle.refusal.proofs.Laws.{mapped-by, mapA-mapA, short-map}
 use Rattle.refusal.proofs.Once.{refusalOf-refused, untold, one-told}
 use Rattle.refusal.proofs.Readers.{answers, exactly-reworded, exactly-as}
 use Rattle.splice.specs.Writing.{Wrote}
 use Rattle.lv.specs.Rules.{span, partOf}
 use Rattle.lv.proofs.Laws.{partOf-in}
 use Rattle.action.specs.Rules.{codeOf}
+use Rattle.tlv.specs.Short.{ShortTlv}
 use Rattle.filestore_base.specs.Meaning.{Filed, filed, baseOf, bytesIf, isThere, partIf, secondAt, meaning, filedTlv}
 use Rattle.filestore_base.specs.declared.SecondName.{SecondName}
 use Rattle.filestore_base.specs.declared.SecondName.the-variants.{There, Absent}
@@ -200,6 +201,16 @@ same-responses q x r y =
 pub response-alone : (v rest : List ℕ) → readResponse (tlv filestoreResponse v ++ rest) ≡ mapA (λ t. responseIn (found t)) (takeValue true v)
 unfolding readResponse
 response-alone v rest = ap (mapA responseIn) (readers.read-alone true v rest) ∙ mapA-mapA responseIn found (takeValue true v)
+
+-- ---- WHERE IT RAN SHORT: at 0 where the TLV is not all there, else at the part of its value that ran short
+
+pub response-runs-short : (bs : List ℕ) → ShortBy (ShortTlv bs) (readResponse bs)
+unfolding readResponse
+response-runs-short bs = short-map responseIn (readBase true bs) (readers.base-runs-short true bs)
+
+pub strict-response-runs-short : (bs : List ℕ) → ShortBy (ShortTlv bs) (strictResponse bs)
+unfolding strictResponse
+strict-response-runs-short bs = short-map responseIn (strictBase true bs) (readers.strict-runs-short true bs)
 
 -- ---- ONE ANSWER: of the builders and the readers
 

@@ -8,16 +8,17 @@ use mathlib.Core.List.{List, [], _∷_}
 use lib.ListN.{length, take, drop, getD, set, length-drop}
 use lib.Seq.{length-take-le, take-length, slice, slice-cons, length-slice}
 use lib.Dec.{leb}
-use borrow.Author.Tests.{le-leb, lt-leb, leb-true}
+use borrow.Author.Tests.{le-leb, lt-leb, leb-true, leb-false}
 use Rattle.bluebook.specs.Layouts.{lv}
-use Rattle.refusal.specs.Answer.{Answer, gives, refuses, mapA, also, RefusedBy, placeTest}
+use Rattle.refusal.specs.Answer.{Answer, gives, refuses, shortAt, ShortBy, mapA, also, RefusedBy, placeTest}
 use Rattle.refusal.specs.Reader.{took}
-use Rattle.refusal.proofs.Laws.{also-passed, also-refused, also-both, also-assoc, pick-passed, refused-pick, limit-in, limit-over, limit-passed, placeTest-in, placeTest-out, placeTest-passed}
+use Rattle.refusal.proofs.Laws.{also-passed, also-refused, also-both, also-assoc, pick-passed, refused-pick, short-here, short-given, short-pick, short-map, short-then, short-limit, limit-in, limit-over, limit-passed, placeTest-in, placeTest-out, placeTest-passed}
 use Rattle.splice.specs.Laid.{laid, sameBytes}
 use Rattle.splice.specs.Writing.{roomFor, Wrote}
 use Rattle.splice.proofs.Laws.{laid-cons}
 use Rattle.splice.proofs.Writing.{roomFor-in, roomFor-out, roomAt-there, wrote, wrote-not, wrote-refused, wrote-passed, wrote-laid}
 use Rattle.lv.specs.Rules.{span, partOf, spanTest, sizeTest, newLv, lenFull, takeLv, readLv, readLvAt, writeTest, writeLv, writeLvAt, sameLv}
+use Rattle.lv.specs.Short.{ShortLv}
 use Rattle.lv.specs.declared.Lv.{Lv}
 
 -- ---- a span of a buffer
@@ -79,24 +80,32 @@ lenFull-over l h = rw (sizeTest-over l h)
 
 -- ---- reading
 
-pub takeLv-none : (bs : List ℕ) → length bs < 1 → takeLv bs ≡ refuses 1 (0 ∷ 1 ∷ [])
-unfolding takeLv
-takeLv-none [] h = refl
-takeLv-none (x ∷ bs) h = absurd (omega arith)
+module _ (at : ℕ) where
+  pub takeLv-none : (bs : List ℕ) → length bs < 1 → takeLv at bs ≡ shortAt at 0 1
+  unfolding takeLv
+  takeLv-none [] h = refl
+  takeLv-none (x ∷ bs) h = absurd (omega arith)
 
-pub takeLv-short : (x : ℕ) (bs : List ℕ) → length bs < x → takeLv (x ∷ bs) ≡ refuses 1 (length (x ∷ bs) ∷ (x + 1) ∷ [])
-unfolding takeLv
-takeLv-short x bs k = simp (lt-leb x (length bs) k)
+  pub takeLv-short : (x : ℕ) (bs : List ℕ) → length bs < x → takeLv at (x ∷ bs) ≡ shortAt at (length (x ∷ bs)) (x + 1)
+  unfolding takeLv
+  takeLv-short x bs k = simp (lt-leb x (length bs) k)
 
-pub takeLv-whole : (x : ℕ) (bs : List ℕ) → x ≤ length bs → takeLv (x ∷ bs) ≡ gives (took (take x bs) (drop x bs))
-unfolding takeLv
-takeLv-whole x bs k = simp (le-leb x (length bs) k)
+  pub takeLv-whole : (x : ℕ) (bs : List ℕ) → x ≤ length bs → takeLv at (x ∷ bs) ≡ gives (took (take x bs) (drop x bs))
+  unfolding takeLv
+  takeLv-whole x bs k = simp (le-leb x (length bs) k)
 
--- its only refusal is 1
-pub takeLv-refusals : (P : ℕ → Type 0) → P 1 → (bs : List ℕ) → RefusedBy P (takeLv bs)
-unfolding takeLv
-takeLv-refusals P one [] = one
-takeLv-refusals P one (len ∷ bs) = refused-pick P (leb len (length bs)) _ _ tt one
+  -- its only refusal is 1
+  pub takeLv-refusals : (P : ℕ → Type 0) → P 1 → (bs : List ℕ) → RefusedBy P (takeLv at bs)
+  unfolding takeLv
+  takeLv-refusals P one [] = one
+  takeLv-refusals P one (len ∷ bs) = refused-pick P (leb len (length bs)) _ _ tt one
+
+  pub lv-runs-short : (bs : List ℕ) → ShortBy (ShortLv at (at + length bs)) (takeLv at bs)
+  unfolding takeLv
+  lv-runs-short [] = short-here at 0 1 (record { starts = refl; reaches = refl; more = omega arith })
+  lv-runs-short (len ∷ bs) =
+      short-pick (leb len (length bs)) _ _ (λ _. short-given _)
+      (λ e. short-here at (length (len ∷ bs)) (len + 1) (record { starts = refl; reaches = refl; more = omega (arith, leb-false len (length bs) e) }))
 
 -- ---- reading at a place
 
@@ -110,24 +119,24 @@ module _ (bs : List ℕ) (at end : ℕ) where
     unfolding readLvAt
     readLvAt-at h = rw (placeTest-in end (length bs) inner, placeTest-out at end h)
 
-    pub readLvAt-in : at ≤ end → readLvAt bs at end ≡ mapA (λ t. span (at + 1) (length (t .got))) (takeLv (slice at end bs))
+    pub readLvAt-in : at ≤ end → readLvAt bs at end ≡ mapA (λ t. span (at + 1) (length (t .got))) (takeLv at (slice at end bs))
     unfolding readLvAt
     readLvAt-in h = rw (placeTest-in end (length bs) inner, placeTest-in at end h)
 
-    pub readLvAt-none : at ≤ end → end - at < 1 → readLvAt bs at end ≡ refuses 1 ((end - at) ∷ 1 ∷ [])
+    pub readLvAt-none : at ≤ end → end - at < 1 → readLvAt bs at end ≡ shortAt at (end - at) 1
     readLvAt-none h k =
         let z : 0 ≡ end - at = omega arith in
-        readLvAt-in h ∙ ap (mapA _) (takeLv-none (slice at end bs) (omega (arith, length-slice at end bs inner))) ∙ ap (λ (n : ℕ). refuses 1 (n ∷ 1 ∷ [])) z
+        readLvAt-in h ∙ ap (mapA _) (takeLv-none at (slice at end bs) (omega (arith, length-slice at end bs inner))) ∙ ap (λ (n : ℕ). shortAt at n 1) z
 
-    pub readLvAt-short : at < end → end - at < getD bs at 0 + 1 → readLvAt bs at end ≡ refuses 1 ((end - at) ∷ (getD bs at 0 + 1) ∷ [])
+    pub readLvAt-short : at < end → end - at < getD bs at 0 + 1 → readLvAt bs at end ≡ shortAt at (end - at) (getD bs at 0 + 1)
     readLvAt-short h k =
         let s = slice-cons at end bs 0 h inner in
         let n = length-slice at end bs inner in
         readLvAt-in (omega arith)
         ∙ ap (mapA _)
-        (ap takeLv s
-        ∙ takeLv-short (getD bs at 0) (slice (suc at) end bs) (omega (arith, ap length s))
-        ∙ ap (λ (m : ℕ). refuses 1 (m ∷ (getD bs at 0 + 1) ∷ [])) (sym (ap length s) ∙ n))
+        (ap (takeLv at) s
+        ∙ takeLv-short at (getD bs at 0) (slice (suc at) end bs) (omega (arith, ap length s))
+        ∙ ap (λ (m : ℕ). shortAt at m (getD bs at 0 + 1)) (sym (ap length s) ∙ n))
 
     pub readLvAt-whole : at < end → getD bs at 0 + 1 ≤ end - at → readLvAt bs at end ≡ gives (span (at + 1) (getD bs at 0))
     readLvAt-whole h k =
@@ -135,7 +144,7 @@ module _ (bs : List ℕ) (at end : ℕ) where
         let n = length-slice at end bs inner in
         let j : getD bs at 0 ≤ length (slice (suc at) end bs) = omega (arith, ap length s) in
         readLvAt-in (omega arith)
-        ∙ ap (mapA _) (ap takeLv s ∙ takeLv-whole (getD bs at 0) (slice (suc at) end bs) j)
+        ∙ ap (mapA _) (ap (takeLv at) s ∙ takeLv-whole at (getD bs at 0) (slice (suc at) end bs) j)
         ∙ ap (λ (m : ℕ). gives (span (at + 1) m)) (length-take-le (getD bs at 0) (slice (suc at) end bs) j)
 
 -- what is given was read between places of the buffer
@@ -150,6 +159,19 @@ readLvAt-places bs at end l e =
 pub readLvAt-all : (bs : List ℕ) → readLvAt bs 0 (length bs) ≡ readLv bs
 unfolding readLv
 readLvAt-all bs = readLvAt-in bs 0 (length bs) (omega arith) (omega arith) ∙ rw take-length
+
+-- where they run short: `read_at` at its place, of the bytes up to the end place; `from_bytes` at 0, of all
+
+pub read-at-runs-short : (bs : List ℕ) (at end : ℕ) → ShortBy (ShortLv at end) (readLvAt bs at end)
+unfolding readLvAt
+read-at-runs-short bs at end =
+    short-then (placeTest end (length bs)) _ (short-limit 15 (length bs) end (λ e. omega arith)) (λ _ p.
+    short-then (placeTest at end) _ (short-limit 15 end at (λ e. omega arith)) (λ _ q.
+    let n : at + length (slice at end bs) ≡ end = omega (arith, placeTest-passed at end (sym q), length-slice at end bs (placeTest-passed end (length bs) (sym p))) in
+    short-map _ (takeLv at (slice at end bs)) (subst (λ (e : ℕ). ShortBy (ShortLv at e) (takeLv at (slice at end bs))) n (lv-runs-short at (slice at end bs)))))
+
+pub read-runs-short : (bs : List ℕ) → ShortBy (ShortLv 0 (length bs)) (readLv bs)
+read-runs-short bs = subst (ShortBy (ShortLv 0 (length bs))) (readLvAt-all bs) (read-at-runs-short bs 0 (length bs))
 
 -- ---- writing
 

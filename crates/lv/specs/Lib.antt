@@ -1,3 +1,4 @@
 -- The definitions of this crate.
 pub mod Rules
 pub mod Told
+pub mod Short

@@ -6,10 +6,9 @@ use refusal::Refusal;
 use refusal::Sameness;
 use refusal::Written;
 ghost use mathlib.Core.Path.{_≡_};
-ghost use mathlib.Core.List.{[], _∷_};
 ghost use lib.ListN.{length};
 ghost use lib.Dec.{eqb};
-ghost use Rattle.refusal.specs.Answer.{refuses};
+ghost use Rattle.refusal.specs.Answer.{shortAt};
 ghost use Rattle.refusal.specs.Told.{toldWritten, toldChecked, toldLength, toldSameness};
 ghost use Rattle.splice.specs.Writing.{Wrote};
 ghost use Rattle.lv.specs.Rules.{span, partOf, spanTest, sizeTest, writeTest, newLv, lenFull, readLv, readLvAt, writeLv, writeLvAt, sameLv};
@@ -28,10 +27,14 @@ pub enum LvRead {
 }
 
 // Refusal 1.
-fn short(found: usize, expected: usize) -> LvRead
-    ensures { λ r. ⌜ toldLv r ≡ refuses 1 (found ∷ expected ∷ []) ⌝ }
+fn short(place: usize, found: usize, expected: usize) -> LvRead
+    ensures { λ r. ⌜ toldLv r ≡ shortAt place found expected ⌝ }
 {
-    LvRead::Refused(Refusal::FromSliceTooSmall { found, expected })
+    LvRead::Refused(Refusal::FromSliceTooSmall {
+        found,
+        expected,
+        place,
+    })
 }
 
 impl Lv {
@@ -182,11 +185,11 @@ impl Lv {
         }
         let found = end - at;
         if found < Lv::MIN_LEN {
-            return short(found, Lv::MIN_LEN);
+            return short(at, found, Lv::MIN_LEN);
         }
         let len = buf[at] as usize;
         if found < len + 1 {
-            return short(found, len + 1);
+            return short(at, found, len + 1);
         }
         let start = at + 1;
         LvRead::Read(Lv { start, len })

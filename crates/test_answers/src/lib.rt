@@ -1,4 +1,5 @@
-// Says what the library's calls answer, on standard output: one function for each type of answer. A refusal is said by its number and values.
+// Says what the library's calls answer, on standard output: one function for each type of answer. A refusal is said by its number and values, of
+// refusal 1 the place behind the other two.
 // A record is said by five numbers: its place, its type byte, its value's start and length, and the place behind it. An end is said as whole
 // and its place, or as cut, its place and the count of bytes behind; a summary by the number of records and the end.
 // No contract states what is written: a public function here answers nothing and changes nothing that is lent.
@@ -49,6 +50,11 @@ pub fn refused(r: Refusal)
             numbered(b" (", x);
             numbered(b", ", y);
             text(b")");
+        }
+        Values::Three(x, y, place) => {
+            numbered(b" (", x);
+            numbered(b", ", y);
+            numbered(b") at ", place);
         }
     }
 }

@@ -2,3 +2,4 @@
 pub mod Kinds
 pub mod Rules
 pub mod Told
+pub mod Short

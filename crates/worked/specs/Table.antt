@@ -3,7 +3,7 @@ use mathlib.Core.Path.{_≡_}
 use Prim.Native.Nat.{ℕ}
 use mathlib.Core.List.{List, [], _∷_}
 use lib.ListN.{take}
-use Rattle.refusal.specs.Answer.{Answer, gives, refuses}
+use Rattle.refusal.specs.Answer.{Answer, gives, refuses, shortAt}
 use Rattle.tlv.specs.declared.TlvTypeField.the-variants.{Custom}
 use Rattle.action.specs.declared.FilestoreActionCode.the-variants.{CreateFile, RenameFile}
 use Rattle.walk.specs.declared.End.the-variants.{Whole, Cut}
@@ -26,14 +26,14 @@ Holds r = answerOf (r .call) (r .bytes) ≡ r .answer
 abbrev journal : List ℕ
 journal = 0x05 ∷ 0x01 ∷ 0xAA ∷ 0x06 ∷ 0x01 ∷ 0x07 ∷ []
 
--- a part is its start, its length and its bytes
+-- a part is its start, its length and its bytes; refusal 1 is its place (document 02, Q-2), what was found and what was expected
 abbrev pub table : List Row
 table =
-    row 1 lv [] (refuses 1 (0 ∷ 1 ∷ []))
+    row 1 lv [] (shortAt 0 0 1)
     ∷ row 2 lv (0x00 ∷ []) (gives (value (part 1 0 [])))
-    ∷ row 3 lv (0x03 ∷ 0x61 ∷ 0x62 ∷ []) (refuses 1 (3 ∷ 4 ∷ []))
+    ∷ row 3 lv (0x03 ∷ 0x61 ∷ 0x62 ∷ []) (shortAt 0 3 4)
     ∷ row 4 tlv (0x03 ∷ 0x00 ∷ []) (gives (typed (Custom 3) (part 2 0 [])))
-    ∷ row 5 tlv (0x05 ∷ 0x02 ∷ 0xAA ∷ []) (refuses 1 (2 ∷ 3 ∷ []))
+    ∷ row 5 tlv (0x05 ∷ 0x02 ∷ 0xAA ∷ []) (shortAt 0 2 3)
     ∷ row 6 entity (0x06 ∷ 0x02 ∷ 0x01 ∷ 0x02 ∷ 0xFF ∷ []) (gives (number 2 258))
     ∷ row 7 entity (0x06 ∷ 0x03 ∷ 0x01 ∷ 0x02 ∷ 0x03 ∷ []) (refuses 5 (3 ∷ []))
     -- rename a to b
@@ -41,10 +41,10 @@ table =
     ∷ row 9 request (0x00 ∷ 0x03 ∷ 0x20 ∷ 0x01 ∷ 0x61 ∷ []) (refuses 6 [])
     ∷ row 10 request (0x00 ∷ 0x04 ∷ 0x20 ∷ 0x01 ∷ 0x61 ∷ 0x00 ∷ []) (gives (requests RenameFile (part 4 1 (0x61 ∷ [])) (part 6 0 [])))
     ∷ row 11 request (0x00 ∷ 0x03 ∷ 0x90 ∷ 0x01 ∷ 0x61 ∷ []) (refuses 7 (9 ∷ []))
-    ∷ row 11 request (0x00 ∷ 0x00 ∷ []) (refuses 1 (0 ∷ 1 ∷ []))
+    ∷ row 11 request (0x00 ∷ 0x00 ∷ []) (shortAt 2 0 1)
     -- create a, status 1, empty message
     ∷ row 12 response (0x01 ∷ 0x04 ∷ 0x01 ∷ 0x01 ∷ 0x61 ∷ 0x00 ∷ []) (gives (responds CreateFile 1 (part 4 1 (0x61 ∷ [])) absent (part 6 0 [])))
-    ∷ row 13 response (0x01 ∷ 0x03 ∷ 0x01 ∷ 0x01 ∷ 0x61 ∷ []) (refuses 1 (0 ∷ 1 ∷ []))
+    ∷ row 13 response (0x01 ∷ 0x03 ∷ 0x01 ∷ 0x01 ∷ 0x61 ∷ []) (shortAt 5 0 1)
     ∷ row 14 request (0x00 ∷ 0x04 ∷ 0x00 ∷ 0x01 ∷ 0x61 ∷ 0xFF ∷ []) (gives (requests CreateFile (part 4 1 (0x61 ∷ [])) absent))
     ∷ row 14 requestStrict (0x00 ∷ 0x04 ∷ 0x00 ∷ 0x01 ∷ 0x61 ∷ 0xFF ∷ []) (refuses 12 (1 ∷ []))
     ∷ row 14 request (0x00 ∷ 0x03 ∷ 0x05 ∷ 0x01 ∷ 0x61 ∷ []) (gives (requests CreateFile (part 4 1 (0x61 ∷ [])) absent))
