@@ -1,7 +1,7 @@
 /* Balunduwa for C: the records of a CFDP journal, read and written, and the walk over them, as a static library for x86-64.
  *
- * Every function is proved, in crates/cabi, to answer what the customer's rules say ("document 01"), and where they are silent what
- * docs/DECISIONS.md says, for all arguments that keep the two rules below; this header and the compiler that reads it are not part of that proof.
+ * Every function is proved, in crates/cabi, to answer what the customer's rules say ("document 01", and the requests since), and where they are silent
+ * what docs/DECISIONS.md says, for all arguments that keep the two rules below; this header and the compiler that reads it are not part of that proof.
  *
  * An answer is a struct by value. It begins with a refusal: number 0 where there is none, else a number from 1 to 15 (README.md, 'The answers by
  * number'), with the refusal's values in that table's order and 0 for each value that it does not carry. Behind it stands what the call gives, which is 0
@@ -24,10 +24,19 @@ extern "C" {
 /* The longest journal that is walked. */
 #define BALUNDUWA_LIMIT 65536
 
+/* A refusal. Refusal 1, too few bytes to read, is the one with three values: first is how many bytes were found, second how many were expected, and
+ * third the place of what ran short, counted from the start of the LV or TLV that is read, for balunduwa_kind_at too:
+ *   0          the LV is short, or the TLV itself, whichever call reads it;
+ *   2          the value of a filestore request or response is empty (the action would stand there);
+ *   3          its first name is short;
+ *   4 or more  its second name or its message is short: the place of that one's length byte, which may be missing too.
+ * So the request 00 03 20 05 61 is refusal 1 (2, 6) at 3: two bytes found, six expected, from the first name's length byte on. Of every other refusal
+ * third is 0. */
 typedef struct {
     size_t number;
     size_t first;
     size_t second;
+    size_t third;
 } balunduwa_refusal;
 
 typedef struct {
@@ -63,7 +72,7 @@ typedef struct {
     balunduwa_span value;
 } balunduwa_tlv_answer;
 
-/* The TLV at the front of buf, of any type: 1. */
+/* The TLV at the front of buf, of any type: 1. Of a value that is short, found and expected count from the length byte; the place is 0. */
 balunduwa_tlv_answer balunduwa_tlv_read(const uint8_t *buf, size_t buf_len);
 
 /* Writes a TLV to the front of buf: 4, 15, 2. */
@@ -176,10 +185,10 @@ typedef struct {
     uint8_t kind;
 } balunduwa_kind;
 
-/* What kind of record stands at a place of the journal, by the plain reader of its type: 14, 15, or that reader's refusal. Ask it where
- * balunduwa_walk_step or balunduwa_walk_next tells a record. No record stands at an end, and an end has no kind: a whole end is refusal 1 (0, 2), which
- * is what the TLV's reader says of no bytes, and a cut end is a refusal of the reader that the stump's first byte names: 1, and of an entity ID also 2
- * or 5. */
+/* What kind of record stands at a place of the journal, by the plain reader of its type: 14, 15, or that reader's refusal. The place that a
+ * refusal 1 carries is counted from that record's start; in the journal it is place + third. Ask it where balunduwa_walk_step or
+ * balunduwa_walk_next tells a record. No record stands at an end, and an end has no kind: a whole end is refusal 1 (0, 2) at 0, which is what the TLV's
+ * reader says of no bytes, and a cut end is a refusal of the reader that the stump's first byte names: 1 at 0, and of an entity ID also 2 or 5. */
 balunduwa_kind balunduwa_kind_at(const uint8_t *buf, size_t buf_len, size_t place);
 
 #ifdef __cplusplus
