@@ -15,6 +15,11 @@ use core::{error::Error, fmt, iter::FusedIterator};
 pub const LIMIT: usize = 65536;
 
 /// Why a call refuses: the number, from 1 to 15, and its values in order, 0 for each that it does not carry.
+///
+/// Refusal 1, too few bytes to read, is the one with three values: how many bytes were found, how many were expected, and the place of what ran short,
+/// counted from the start of the LV or TLV that is read, for [`kind_at`] too. The place is 0 where the LV is short, or the TLV itself; 2 where the value
+/// of a filestore request or response is empty; 3 where its first name is short; and where its second name or its message is, that of its length byte,
+/// which may be missing too.
 #[derive(Debug, Clone, Copy, PartialEq, Eq)]
 pub struct Refusal {
     /// The number.
@@ -23,11 +28,14 @@ pub struct Refusal {
     pub first: usize,
     /// The second value.
     pub second: usize,
+    /// The third value: the place of a refusal 1, and 0 of every other.
+    pub third: usize,
 }
 
 impl fmt::Display for Refusal {
     fn fmt(&self, f: &mut fmt::Formatter<'_>) -> fmt::Result {
-        write!(f, "refusal {} ({}, {})", self.number, self.first, self.second)
+        write!(f, "refusal {} ({}, {})", self.number, self.first, self.second)?;
+        if self.number == 1 { write!(f, " at {}", self.third) } else { Ok(()) }
     }
 }
 
@@ -227,7 +235,7 @@ pub fn step(journal: &[u8], place: usize) -> Result<Step<'_>, Refusal> {
     let raw::Next { next, tlv_type, what, refusal } = raw::walk_next(journal, place);
     match what {
         raw::RECORD => Ok(Step::Record(Record { place, tlv_type, value: &journal[place + 2..next] }, next)),
-        raw::REFUSED => Err(Refusal { number: refusal.into(), first: if refusal == 14 { journal.len() } else { place }, second: 0 }),
+        raw::REFUSED => Err(Refusal { number: refusal.into(), first: if refusal == 14 { journal.len() } else { place }, second: 0, third: 0 }),
         _ => Ok(Step::End(End { place: next, behind: journal.len() - next })),
     }
 }
@@ -244,8 +252,8 @@ pub fn summary(journal: &[u8]) -> Result<Summary, Refusal> {
     Ok(Summary { count: answer.count, end: End { place: answer.place, behind: answer.behind } })
 }
 
-/// What kind of record stands at a place of the journal, or why the plain reader of its type refuses it. Ask it where [`step`] tells a record: an end
-/// has no kind, and a whole end is refusal 1 (0, 2).
+/// What kind of record stands at a place of the journal, or why the plain reader of its type refuses it: the place that a refusal 1 carries is counted
+/// from that record's start. Ask it where [`step`] tells a record: an end has no kind, and a whole end is refusal 1 (0, 2) at 0.
 pub fn kind_at(journal: &[u8], place: usize) -> Result<Kind, Refusal> {
     let answer = raw::kind_at(journal, place);
     given(answer.refusal)?;
@@ -314,8 +322,8 @@ impl From<Span> for raw::Span {
 }
 
 fn given(refusal: raw::Refusal) -> Result<(), Refusal> {
-    let raw::Refusal { number, first, second } = refusal;
-    if number == 0 { Ok(()) } else { Err(Refusal { number, first, second }) }
+    let raw::Refusal { number, first, second, third } = refusal;
+    if number == 0 { Ok(()) } else { Err(Refusal { number, first, second, third }) }
 }
 
 fn written(answer: raw::Written) -> Result<usize, Refusal> {

@@ -8,6 +8,7 @@ pub struct Refusal {
     pub number: usize,
     pub first: usize,
     pub second: usize,
+    pub third: usize,
 }
 
 #[repr(C)]

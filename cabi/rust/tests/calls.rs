@@ -1,8 +1,14 @@
-//! Calls every function of the wrapper, and so every one of the library; answers and bytes are compared with what document 01 says.
+//! Calls every function of the wrapper, and so every one of the library; answers and bytes are compared with what the customer's rules say.
 use balunduwa::*;
 
+/// Any refusal but 1: it has no third value.
 fn refuses<T>(number: usize, first: usize, second: usize) -> Result<T, Refusal> {
-    Err(Refusal { number, first, second })
+    Err(Refusal { number, first, second, third: 0 })
+}
+
+/// Refusal 1.
+fn short<T>(found: usize, expected: usize, place: usize) -> Result<T, Refusal> {
+    Err(Refusal { number: 1, first: found, second: expected, third: place })
 }
 
 fn span(start: usize, len: usize) -> Span {
@@ -37,8 +43,8 @@ fn run(room: usize, write: impl FnOnce(&mut [u8]) -> Result<usize, Refusal>) -> 
 #[test]
 fn lv() {
     assert_eq!(read_lv(&[0x02, b'a', b'b', 0xFF]), Ok(span(1, 2)));
-    assert_eq!(read_lv(&[]), refuses(1, 0, 1));
-    assert_eq!(read_lv(&[0x03, b'a', b'b']), refuses(1, 3, 4));
+    assert_eq!(read_lv(&[]), short(0, 1, 0));
+    assert_eq!(read_lv(&[0x03, b'a', b'b']), short(3, 4, 0));
 
     writes(4, &[0x02, b'a', b'b'], |buf| write_lv(span(1, 2), b"xab", buf));
     writes_nothing(4, (4, 256, 0), |buf| write_lv(span(9, 256), b"xab", buf));
@@ -58,8 +64,9 @@ fn spans() {
 #[test]
 fn tlv() {
     assert_eq!(read_tlv(&[0x05, 0x01, 0xAA, 0x06]), Ok(Tlv { tlv_type: 5, value: span(2, 1) }));
-    assert_eq!(read_tlv(&[0x05]), refuses(1, 1, 2));
-    assert_eq!(read_tlv(&[0x05, 0x02, 0xAA]), refuses(1, 2, 3));
+    assert_eq!(read_tlv(&[]), short(0, 2, 0));
+    assert_eq!(read_tlv(&[0x05]), short(1, 2, 0));
+    assert_eq!(read_tlv(&[0x05, 0x02, 0xAA]), short(2, 3, 0));
 
     let tlv = |start, len| Tlv { tlv_type: 5, value: span(start, len) };
     writes(5, &[0x05, 0x02, b'a', b'b'], |buf| write_tlv(tlv(1, 2), b"xab", buf));
@@ -78,7 +85,7 @@ fn entity() {
     assert_eq!(read_entity(&[0x06]), refuses(2, 1, 2));
     assert_eq!(read_entity(&[0x05, 0x03]), refuses(3, 5, 6));
     assert_eq!(read_entity(&[0x06, 0x03, 0x01, 0x02, 0x03]), refuses(5, 3, 0));
-    assert_eq!(read_entity(&[0x06, 0x02, 0x01]), refuses(1, 3, 4));
+    assert_eq!(read_entity(&[0x06, 0x02, 0x01]), short(3, 4, 0));
 
     writes(12, &read, |buf| write_entity(of_read, buf));
     writes_nothing(12, (5, 3, 0), |buf| write_entity(Entity { width: 3, value: 0 }, buf));
@@ -92,12 +99,15 @@ fn request() {
     for read in [read_request, read_request_strict] {
         assert_eq!(read(&[0x00, 0x03, 0x00, 0x01, b'a']), Ok(Request { action: 0, first_name: span(4, 1), second_name: None }));
         assert_eq!(read(&[0x00, 0x04, 0x20, 0x01, b'a', 0x00]), Ok(Request { action: 2, first_name: span(4, 1), second_name: Some(span(6, 0)) }));
-        assert_eq!(read(&[0x00]), refuses(1, 1, 2));
+        assert_eq!(read(&[0x00]), short(1, 2, 0));
         assert_eq!(read(&[0x01, 0x00]), refuses(3, 1, 0));
-        assert_eq!(read(&[0x00, 0x05, 0x20]), refuses(1, 3, 7));
-        assert_eq!(read(&[0x00, 0x00]), refuses(1, 0, 1));
+        assert_eq!(read(&[0x00, 0x05, 0x20]), short(3, 7, 0));
+        assert_eq!(read(&[0x00, 0x00]), short(0, 1, 2));
         assert_eq!(read(&[0x00, 0x03, 0x90, 0x01, b'a']), refuses(7, 9, 0));
+        assert_eq!(read(&[0x00, 0x01, 0x00]), short(0, 1, 3));
+        assert_eq!(read(&[0x00, 0x03, 0x20, 0x05, b'a']), short(2, 6, 3));
         assert_eq!(read(&[0x00, 0x03, 0x20, 0x01, b'a']), refuses(6, 0, 0));
+        assert_eq!(read(&[0x00, 0x04, 0x20, 0x01, b'a', 0x03]), short(1, 4, 5));
     }
     let slack = [0x00, 0x04, 0x05, 0x01, b'a', 0xFF];
     assert_eq!(read_request(&slack), Ok(Request { action: 0, first_name: span(4, 1), second_name: None }));
@@ -128,11 +138,16 @@ fn response() {
             read(&[0x01, 0x04, 0x01, 0x01, b'a', 0x00]),
             Ok(Response { action: 0, status: 1, first_name: span(4, 1), second_name: None, filestore_message: span(6, 0) })
         );
-        assert_eq!(read(&[0x01]), refuses(1, 1, 2));
+        assert_eq!(read(&[0x01]), short(1, 2, 0));
         assert_eq!(read(&[0x00, 0x00]), refuses(3, 0, 1));
+        assert_eq!(read(&[0x01, 0x05, 0x20]), short(3, 7, 0));
+        assert_eq!(read(&[0x01, 0x00]), short(0, 1, 2));
         assert_eq!(read(&[0x01, 0x04, 0xF1, 0x01, b'a', 0x00]), refuses(7, 15, 0));
+        assert_eq!(read(&[0x01, 0x03, 0x01, 0x05, b'a']), short(2, 6, 3));
         assert_eq!(read(&[0x01, 0x03, 0x20, 0x01, b'a']), refuses(6, 0, 0));
-        assert_eq!(read(&[0x01, 0x03, 0x01, 0x01, b'a']), refuses(1, 0, 1));
+        assert_eq!(read(&[0x01, 0x04, 0x20, 0x01, b'a', 0x03]), short(1, 4, 5));
+        assert_eq!(read(&[0x01, 0x03, 0x01, 0x01, b'a']), short(0, 1, 5));
+        assert_eq!(read(&[0x01, 0x08, 0x20, 0x02, b'a', b'b', 0x01, b'c', 0x05, b'm']), short(2, 6, 8));
     }
     let slack = [0x01, 0x05, 0x04, 0x01, b'a', 0x00, 0xFF];
     let of_slack = Response { action: 0, status: 4, first_name: span(4, 1), second_name: None, filestore_message: span(6, 0) };
@@ -187,9 +202,18 @@ fn walk() {
     assert_eq!(kind_at(&journal, 3), Ok(Kind::Entity));
     assert_eq!(kind_at(&journal, 0), Ok(Kind::Other));
     assert_eq!(kind_at(&[0x00, 0x03, 0x20, 0x01, b'a', 0x01], 0), refuses(6, 0, 0));
-    assert_eq!(kind_at(&journal, 6), refuses(1, 0, 2));
+    assert_eq!(kind_at(&journal, 6), short(0, 2, 0));
     assert_eq!(kind_at(&journal, 7), refuses(15, 7, 0));
     assert_eq!(kind_at(&too_long, 0), refuses(14, LIMIT + 1, 0));
+
+    // Not the first record: the place counts from its start.
+    let behind = |record: &[u8]| kind_at(&[&[0x05, 0x02, 0xAA, 0xBB], record].concat(), 4);
+    assert_eq!(behind(&[0x00, 0x00]), short(0, 1, 2));
+    assert_eq!(behind(&[0x00, 0x03, 0x20, 0x05, b'a']), short(2, 6, 3));
+    assert_eq!(behind(&[0x01, 0x03, 0x01, 0x01, b'a', 0x06, 0x01, 0x07]), short(0, 1, 5));
+    assert_eq!(behind(&[0x00, 0x03, 0x20, 0x01]), short(4, 5, 0));
+    assert_eq!(behind(&[0x06, 0x02, 0x01]), short(3, 4, 0));
+    assert_eq!(behind(&[0x05, 0x02, 0xAA]), short(2, 3, 0));
 }
 
 /// The step as `walk_step` of the library tells it, whose answer has every field.
@@ -198,7 +222,10 @@ fn whole_step(journal: &[u8], place: usize) -> Result<Step<'_>, Refusal> {
     match (refusal.number, what) {
         (0, raw::RECORD) => Ok(Step::Record(Record { place, tlv_type, value: Span::from(value).of(journal).unwrap() }, next)),
         (0, _) => Ok(Step::End(End { place: next, behind: value.len })),
-        _ => refuses(refusal.number, refusal.first, refusal.second),
+        _ => {
+            let raw::Refusal { number, first, second, third } = refusal;
+            Err(Refusal { number, first, second, third })
+        }
     }
 }
 
@@ -229,5 +256,49 @@ fn a_step_is_told_alike_by_both_calls() {
 fn a_refusal_is_an_error() {
     let refusal = read_lv(&[]).unwrap_err();
     let error: Box<dyn std::error::Error> = refusal.into();
-    assert_eq!(error.to_string(), "refusal 1 (0, 1)");
+    assert_eq!(error.to_string(), "refusal 1 (0, 1) at 0");
+    assert_eq!(read_request(&[0x00, 0x03, 0x20, 0x05, b'a']).unwrap_err().to_string(), "refusal 1 (2, 6) at 3");
+    assert_eq!(read_entity(&[0x06]).unwrap_err().to_string(), "refusal 2 (1, 2)");
+    assert_eq!(step(&[], 7).unwrap_err().to_string(), "refusal 15 (7, 0)");
+}
+
+/// Makes a call where the stack below is full of [`FILL`]: the library's answer is laid over it, and a field that is not written is not 0 by chance.
+fn over_junk<T>(call: impl FnOnce() -> Result<T, Refusal>) -> Result<T, Refusal> {
+    #[inline(never)]
+    fn junk() {
+        std::hint::black_box(&mut [FILL; 16384]);
+    }
+    junk();
+    call()
+}
+
+#[test]
+fn what_a_refusal_does_not_carry_is_0() {
+    let (src, too_long, mut room) = ([b'n'; 300], vec![0; LIMIT + 1], [FILL; 4]);
+    let rename = Request { action: 2, first_name: span(0, 1), second_name: None };
+    let create = Response { action: 0, status: 16, first_name: span(0, 1), second_name: None, filestore_message: span(0, 0) };
+    assert_eq!(over_junk(|| read_lv(&[])), short(0, 1, 0));
+    assert_eq!(over_junk(|| read_tlv(&[0x05, 0x02, 0xAA])), short(2, 3, 0));
+    assert_eq!(over_junk(|| read_entity(&[0x06])), refuses(2, 1, 2));
+    assert_eq!(over_junk(|| read_entity(&[0x05, 0x03])), refuses(3, 5, 6));
+    assert_eq!(over_junk(|| read_entity(&[0x06, 0x00])), refuses(5, 0, 0));
+    assert_eq!(over_junk(|| read_request(&[0x01, 0x00])), refuses(3, 1, 0));
+    assert_eq!(over_junk(|| read_request(&[0x00, 0x03, 0x20, 0x01, b'a'])), refuses(6, 0, 0));
+    assert_eq!(over_junk(|| read_request(&[0x00, 0x03, 0x90, 0x05, b'a'])), refuses(7, 9, 0));
+    assert_eq!(over_junk(|| read_request_strict(&[0x00, 0x03, 0x05, 0x01, b'a'])), refuses(11, 5, 0));
+    assert_eq!(over_junk(|| read_response(&[0x00, 0x00])), refuses(3, 0, 1));
+    assert_eq!(over_junk(|| read_response(&[0x01, 0x03, 0x20, 0x01, b'a'])), refuses(6, 0, 0));
+    assert_eq!(over_junk(|| read_response(&[0x01, 0x01, 0x90])), refuses(7, 9, 0));
+    assert_eq!(over_junk(|| read_response_strict(&[0x01, 0x05, 0x01, 0x01, b'a', 0x00, 0xFF])), refuses(12, 1, 0));
+    assert_eq!(over_junk(|| read_response_strict(&[0x01, 0x04, 0x04, 0x01, b'a', 0x00])), refuses(13, 4, 0));
+    assert_eq!(over_junk(|| write_lv(span(0, 256), &src, &mut room)), refuses(4, 256, 0));
+    assert_eq!(over_junk(|| write_tlv(Tlv { tlv_type: 5, value: span(0, 3) }, &src, &mut room)), refuses(2, 4, 5));
+    assert_eq!(over_junk(|| write_entity(Entity { width: 1, value: 256 }, &mut room)), refuses(10, 1, 0));
+    assert_eq!(over_junk(|| write_request(rename, &src, &mut room)), refuses(6, 0, 0));
+    assert_eq!(over_junk(|| write_request(Request { action: 0, second_name: Some(span(0, 0)), ..rename }, &src, &mut room)), refuses(8, 0, 0));
+    assert_eq!(over_junk(|| write_response(create, &src, &mut room)), refuses(9, 16, 0));
+    assert_eq!(over_junk(|| summary(&too_long)), refuses(14, LIMIT + 1, 0));
+    assert_eq!(over_junk(|| kind_at(&[0x06, 0x00], 0)), refuses(5, 0, 0));
+    assert_eq!(over_junk(|| kind_at(&[0x06, 0x00], 3)), refuses(15, 3, 0));
+    assert_eq!(over_junk(|| whole_step(&[], 1)), refuses(15, 1, 0));
 }
