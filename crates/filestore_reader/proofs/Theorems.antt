@@ -265,7 +265,7 @@ module _ (P : ℕ → Type 0) (one : P 1) where
       refused-then P (takeSecond (secondPresent (o .got .action)) (4 + length (f .got)) (f .rest)) _ (second-refusals six (secondPresent (o .got .action)) (4 + length (f .got)) (f .rest)) (λ s.
       refused-map P _ (takeIf response (4 + length (f .got) + length (lvIf (s .got))) (s .rest)) (if-refusals response (4 + length (f .got) + length (lvIf (s .got))) (s .rest)))))
 
--- ---- WHERE IT RAN SHORT: at 0 where the TLV is not all there; else at the part of the value that ran short, and what was found of it reaches to
+-- ---- WHERE IT RAN SHORT: at 0 where the TLV is not whole; else at the part of the value that ran short, and what was found of it reaches to
 -- the value's end
 
 if-runs-short : (wanted : Bool) (at : ℕ) (bs : List ℕ) → ShortBy (ShortLv at (at + length bs)) (takeIf wanted at bs)
@@ -305,7 +305,7 @@ value-runs-short response v =
     n : ℕ
     n = length v
 
--- of the value of a TLV that is all there
+-- of the value of a whole TLV
 part-there : {A : Type 0} (bs : List ℕ) (t : ℕ) (v rest : List ℕ) (a : Answer A) → bs ≡ tlv t v ++ rest → ShortBy (ShortPart (length v)) a → ShortBy (ShortTlv bs) a
 part-there bs t v rest a e h =
     let len : getD bs 1 0 ≡ length v = ap (λ (l : List ℕ). getD l 1 0) e in

@@ -202,7 +202,7 @@ pub response-alone : (v rest : List ℕ) → readResponse (tlv filestoreResponse
 unfolding readResponse
 response-alone v rest = ap (mapA responseIn) (readers.read-alone true v rest) ∙ mapA-mapA responseIn found (takeValue true v)
 
--- ---- WHERE IT RAN SHORT: at 0 where the TLV is not all there, else at the part of its value that ran short
+-- ---- WHERE IT RAN SHORT: at 0 where the TLV is not whole, else at the part of its value that ran short
 
 pub response-runs-short : (bs : List ℕ) → ShortBy (ShortTlv bs) (readResponse bs)
 unfolding readResponse
