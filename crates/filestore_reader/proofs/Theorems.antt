@@ -1,5 +1,5 @@
 -- WHAT READING MEANS, for requests and responses at once: what is found selects the meaning whose layout stands there, may be written again, and
--- what was written is found again. Assumes nothing.
+-- what was written is found again; and where reading ran short. Assumes nothing.
 use mathlib.Core.Path.{_≡_, refl, sym, ap, subst, _∙_}
 use Prim.Native.Nat.{ℕ, _+_, _*_, _/_, _≤_, _<_}
 use native.Mathlib.Omega.{arith}
@@ -9,7 +9,7 @@ use mathlib.Core.List.{List, [], _∷_, _++_, append-assoc, append-nil}
 use lib.ListN.{length, drop, getD, length-append}
 use lib.Dec.{leb, ltb}
 use Rattle.bluebook.specs.Layouts.{Octets, actions, secondPresent, there, lv, lvIf, tlv}
-use Rattle.refusal.specs.Answer.{Answer, gives, mapA, andThen, RefusedBy, ShortBy, limitTest}
+use Rattle.refusal.specs.Answer.{Answer, gives, mapA, andThen, RefusedBy, shortAt, ShortBy, limitTest}
 use Rattle.refusal.specs.Reader.{Took, took, Exactly}
 use Rattle.refusal.proofs.Laws.{also-both, pick-passed, refused-pick, refused-map, refused-then, short-here, short-given, short-other, short-pick, short-map, short-then, short-test, short-limit, short-so, limit-passed, mapped-by, mapA-mapA}
 use Rattle.refusal.proofs.Once.{refusalOf-refused, untold, one-told}
@@ -18,8 +18,8 @@ use Rattle.splice.specs.Writing.{Wrote}
 use Rattle.splice.proofs.Writing.{left-by}
 use Rattle.lv.specs.Rules.{span, partOf, takeLv}
 use Rattle.lv.specs.Short.{ShortLv}
-use Rattle.lv.proofs.Laws.{spanTest-in, takeLv-refusals, lv-runs-short}
-use Rattle.lv.proofs.Theorems.{selects, exactly-lv}
+use Rattle.lv.proofs.Laws.{spanTest-in, takeLv-refusals}
+use Rattle.lv.proofs.Theorems.{selects, exactly-lv, lv-runs-short}
 use Rattle.tlv.specs.Rules.{takeOf}
 use Rattle.tlv.specs.Short.{ShortPart, ShortTlv}
 use Rattle.tlv.proofs.Theorems.{exactly-of, of-type-runs-short}
@@ -306,8 +306,8 @@ value-runs-short response v =
     n = length v
 
 -- of the value of a whole TLV
-part-there : {A : Type 0} (bs : List ℕ) (t : ℕ) (v rest : List ℕ) (a : Answer A) → bs ≡ tlv t v ++ rest → ShortBy (ShortPart (length v)) a → ShortBy (ShortTlv bs) a
-part-there bs t v rest a e h =
+part-whole : {A : Type 0} (bs : List ℕ) (t : ℕ) (v rest : List ℕ) (a : Answer A) → bs ≡ tlv t v ++ rest → ShortBy (ShortPart (length v)) a → ShortBy (ShortTlv bs) a
+part-whole bs t v rest a e h =
     let len : getD bs 1 0 ≡ length v = ap (λ (l : List ℕ). getD l 1 0) e in
     let size : length bs ≡ 2 + (length v + length rest) = omega (arith, ap length e, length-append v rest) in
     short-so a (λ p f x l. record { itself = λ w. absurd (w (omega arith)); within = λ _. subst (λ (n : ℕ). ShortPart n p f x) (sym len) l }) h
@@ -316,24 +316,29 @@ pub filed-runs-short : (response : Bool) (bs : List ℕ) → ShortBy (ShortTlv b
 filed-runs-short response bs =
     short-then (takeOf (kindOf response) bs) _ (of-type-runs-short (kindOf response) bs) (λ f e.
     short-map _ (takeValue response (f .got))
-    (part-there bs (kindOf response) (f .got) (f .rest) (takeValue response (f .got)) (exactly-of (kindOf response) .only bs f e .1) (value-runs-short response (f .got))))
+    (part-whole bs (kindOf response) (f .got) (f .rest) (takeValue response (f .got)) (exactly-of (kindOf response) .only bs f e .1) (value-runs-short response (f .got))))
 
 pub base-runs-short : (response : Bool) (bs : List ℕ) → ShortBy (ShortTlv bs) (readBase response bs)
 unfolding readBase
 base-runs-short response bs = short-map _ (takeFiled response bs) (filed-runs-short response bs)
 
--- strict reading's tests refuse with 11, 12 or 13
-test-runs-short : {P : ℕ → ℕ → ℕ → Type 0} (response : Bool) (a l k : ℕ) → ShortBy P (strictTest response a l k)
+-- an empty value is short at 2
+pub empty-value : (response : Bool) (rest : List ℕ) → readBase response (tlv (kindOf response) [] ++ rest) ≡ shortAt 2 0 1
+unfolding takeValue takeOctet
+empty-value response rest = read-alone response [] rest
+
+-- the tests of strict reading refuse with 11, 12 or 13, and never with 1
+test-not-short : {P : ℕ → ℕ → ℕ → Type 0} (response : Bool) (a l k : ℕ) → ShortBy P (strictTest response a l k)
 unfolding listedTest
-test-runs-short false a l k = short-then (lowBitsTest l) _ (short-limit 11 0 l (λ e. omega arith)) (λ _ _. short-limit 12 0 k (λ e. omega arith))
-test-runs-short true a l k = short-then (leftTest k) _ (short-limit 12 0 k (λ e. omega arith)) (λ _ _. short-test (statusListed a l) 13 _ (λ e. omega arith))
+test-not-short false a l k = short-then (lowBitsTest l) _ (short-limit 11 0 l (λ e. omega arith)) (λ _ _. short-limit 12 0 k (λ e. omega arith))
+test-not-short true a l k = short-then (leftTest k) _ (short-limit 12 0 k (λ e. omega arith)) (λ _ _. short-test (statusListed a l) 13 _ (λ e. omega arith))
 
 pub strict-runs-short : (response : Bool) (bs : List ℕ) → ShortBy (ShortTlv bs) (strictBase response bs)
 unfolding strictBase
 strict-runs-short response bs =
     short-map _ (takeStrict response bs)
     (short-then (takeFiled response bs) _ (filed-runs-short response bs) (λ t _.
-    short-then (strictTest response (t .got .got .action) (t .got .got .low) (length (t .got .rest))) _ (test-runs-short response _ _ _) (λ _ _. short-given _)))
+    short-then (strictTest response (t .got .got .action) (t .got .got .low) (length (t .got .rest))) _ (test-not-short response _ _ _) (λ _ _. short-given _)))
 
 -- ---- ONE ANSWER: of `from_bytes` and `from_bytes_strict`
 

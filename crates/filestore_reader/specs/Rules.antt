@@ -47,7 +47,7 @@ takeValue response bs =
     andThen (takeSecond (secondPresent (o .got .action)) (4 + length (f .got)) (f .rest)) (λ s.
     mapA (λ m. took (filed (o .got .action) (o .got .low) (f .got) (s .got) (m .got)) (m .rest)) (takeIf response (4 + length (f .got) + length (lvIf (s .got))) (s .rest)))))
 
--- ---- PLAIN READING: a TLV of the type, with 1 (n, 2), 3, 1 (n, 2 + L), place 0; then its value, and the bytes that are left in it
+-- ---- PLAIN READING: a TLV of the type, with 1 (n, 2), 3, 1 (n, 2 + L), each 1 with the place 0; then its value, and the bytes that are left in it
 
 abbrev pub takeFiled : Bool → Reader (Took Filed)
 takeFiled response = inside (takeOf (kindOf response)) (takeValue response)

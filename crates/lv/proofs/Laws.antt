@@ -8,17 +8,16 @@ use mathlib.Core.List.{List, [], _∷_}
 use lib.ListN.{length, take, drop, getD, set, length-drop}
 use lib.Seq.{length-take-le, take-length, slice, slice-cons, length-slice}
 use lib.Dec.{leb}
-use borrow.Author.Tests.{le-leb, lt-leb, leb-true, leb-false}
+use borrow.Author.Tests.{le-leb, lt-leb, leb-true}
 use Rattle.bluebook.specs.Layouts.{lv}
-use Rattle.refusal.specs.Answer.{Answer, gives, refuses, shortAt, ShortBy, mapA, also, RefusedBy, placeTest}
+use Rattle.refusal.specs.Answer.{Answer, gives, refuses, shortAt, mapA, also, RefusedBy, placeTest}
 use Rattle.refusal.specs.Reader.{took}
-use Rattle.refusal.proofs.Laws.{also-passed, also-refused, also-both, also-assoc, pick-passed, refused-pick, short-here, short-given, short-pick, short-map, short-then, short-limit, limit-in, limit-over, limit-passed, placeTest-in, placeTest-out, placeTest-passed}
+use Rattle.refusal.proofs.Laws.{also-passed, also-refused, also-both, also-assoc, pick-passed, refused-pick, limit-in, limit-over, limit-passed, placeTest-in, placeTest-out, placeTest-passed}
 use Rattle.splice.specs.Laid.{laid, sameBytes}
 use Rattle.splice.specs.Writing.{roomFor, Wrote}
 use Rattle.splice.proofs.Laws.{laid-cons}
 use Rattle.splice.proofs.Writing.{roomFor-in, roomFor-out, roomAt-there, wrote, wrote-not, wrote-refused, wrote-passed, wrote-laid}
 use Rattle.lv.specs.Rules.{span, partOf, spanTest, sizeTest, newLv, lenFull, takeLv, readLv, readLvAt, writeTest, writeLv, writeLvAt, sameLv}
-use Rattle.lv.specs.Short.{ShortLv}
 use Rattle.lv.specs.declared.Lv.{Lv}
 
 -- ---- a span of a buffer
@@ -100,13 +99,6 @@ module _ (at : ℕ) where
   takeLv-refusals P one [] = one
   takeLv-refusals P one (len ∷ bs) = refused-pick P (leb len (length bs)) _ _ tt one
 
-  pub lv-runs-short : (bs : List ℕ) → ShortBy (ShortLv at (at + length bs)) (takeLv at bs)
-  unfolding takeLv
-  lv-runs-short [] = short-here at 0 1 (record { starts = refl; reaches = refl; more = omega arith })
-  lv-runs-short (len ∷ bs) =
-      short-pick (leb len (length bs)) _ _ (λ _. short-given _)
-      (λ e. short-here at (length (len ∷ bs)) (len + 1) (record { starts = refl; reaches = refl; more = omega (arith, leb-false len (length bs) e) }))
-
 -- ---- reading at a place
 
 module _ (bs : List ℕ) (at end : ℕ) where
@@ -159,19 +151,6 @@ readLvAt-places bs at end l e =
 pub readLvAt-all : (bs : List ℕ) → readLvAt bs 0 (length bs) ≡ readLv bs
 unfolding readLv
 readLvAt-all bs = readLvAt-in bs 0 (length bs) (omega arith) (omega arith) ∙ rw take-length
-
--- where they run short: `read_at` at its place, of the bytes up to the end place; `from_bytes` at 0, of all
-
-pub read-at-runs-short : (bs : List ℕ) (at end : ℕ) → ShortBy (ShortLv at end) (readLvAt bs at end)
-unfolding readLvAt
-read-at-runs-short bs at end =
-    short-then (placeTest end (length bs)) _ (short-limit 15 (length bs) end (λ e. omega arith)) (λ _ p.
-    short-then (placeTest at end) _ (short-limit 15 end at (λ e. omega arith)) (λ _ q.
-    let n : at + length (slice at end bs) ≡ end = omega (arith, placeTest-passed at end (sym q), length-slice at end bs (placeTest-passed end (length bs) (sym p))) in
-    short-map _ (takeLv at (slice at end bs)) (subst (λ (e : ℕ). ShortBy (ShortLv at e) (takeLv at (slice at end bs))) n (lv-runs-short at (slice at end bs)))))
-
-pub read-runs-short : (bs : List ℕ) → ShortBy (ShortLv 0 (length bs)) (readLv bs)
-read-runs-short bs = subst (ShortBy (ShortLv 0 (length bs))) (readLvAt-all bs) (read-at-runs-short bs 0 (length bs))
 
 -- ---- writing
 

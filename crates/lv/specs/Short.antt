@@ -1,4 +1,5 @@
--- WHERE THE READING OF AN LV RAN SHORT (document 02, Q-2): from the place where it starts up to an end there were fewer bytes than were expected.
+-- WHERE THE READING OF AN LV RAN SHORT (document 02, Q-2): it starts at the place `at`, what was found there reaches to the place `end`, and more was
+-- expected.
 use mathlib.Core.Path.{_≡_}
 use Prim.Native.Nat.{ℕ, _+_, _<_}
 

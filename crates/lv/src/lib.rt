@@ -172,8 +172,8 @@ impl Lv {
         Lv::read_at(buf, 0, end)
     }
 
-    // The LV that starts at the place at and ends at the place end or before. 15 where end is past the buffer's end, 15 where at is past end, then 1, counted
-    // from at.
+    // The LV that starts at the place at and ends at the place end or before. 15 where end is past the buffer's end, 15 where at is past end, then 1 with
+    // the place at.
     pub fn read_at(buf: &[u8], at: usize, end: usize) -> LvRead
         ensures { λ r. ⌜ toldLv r ≡ readLvAt (now (buf .entry)) at end ⌝ }
     {
