@@ -1,4 +1,4 @@
-"""Cases: lines of calls, each written back with the answers that document 01 and docs/DECISIONS.md give. The table ROWS has every call.
+"""Cases: lines of calls, each written back with the answers that documents 01 and 02 and docs/DECISIONS.md give. The table ROWS has every call.
 
 docs/TESTS.md describes the form of a case.
 """

@@ -1,9 +1,9 @@
-"""Filestore requests and responses: document 01, 'Modules in port order', 4 and 5, and 'Strict reading'."""
+"""Filestore requests and responses: document 01, 'Modules in port order', 4 and 5, and 'Strict reading'; document 02, Q-2."""
 
 from typing import NamedTuple, Optional
 
 from model.formats import EMPTY, REQUEST, RESPONSE, Field, Lv, lv_bytes, lv_read_at, part, size_test, span_test, tlv_len_of
-from model.ground import Refused, lay, room_test
+from model.ground import Refused, lay, room_test, short_test
 
 ACTIONS = 9  # they are 0 to 8
 TWO_NAMES = (2, 3, 4)  # rename, append, replace
@@ -119,10 +119,10 @@ def contents(filed, data):
 
 
 def read(data, type_byte):
-    """'Reading 4 and 5', in its order. The low bits of a request are ignored, and so are bytes left in the value."""
+    """'Reading 4 and 5', in its order. The low bits of a request are ignored, and so are bytes left in the value. Q-2: the place of a 1 is counted
+    from the start of the TLV: 0 where the TLV itself is short, 2 for an empty value, else that of the length byte of the LV that ran short."""
     end = tlv_len_of(data, Field(True, type_byte))
-    if end == 2:
-        raise Refused(1, 0, 1)
+    short_test(2, end - 2, 1)
     action = action_of(data[2] >> 4)
     first = last = lv_read_at(data, 3, end)
     second = message = None

@@ -1,16 +1,28 @@
 """Refusals, bytes laid over a buffer, and big-endian numbers: what all the rules of this model lean on.
 
-The model is written from document 01 and docs/DECISIONS.md, and from nothing of the proved code. A refusal is an exception, so the tests of a call
-stand one below another in the order in which document 01 names them. A buffer that is written to is a bytearray, and is changed in one place, `lay`.
+The model is written from documents 01 and 02 and docs/DECISIONS.md, and from nothing of the proved code. A refusal is an exception, so the tests of
+a call stand one below another in the order in which document 01 names them. A buffer that is written to is a bytearray, and is changed in one place,
+`lay`.
 """
 
 
 class Refused(Exception):
-    """Document 01, 'Answers by number': a number and the values that it carries."""
+    """Document 01, 'Answers by number': a number and the values that it carries. A refusal 1 has a place too (document 02, Q-2), and no other has."""
 
-    def __init__(self, number, *values):
-        super().__init__(number, *values)
-        self.number, self.values = number, values
+    def __init__(self, number, *values, place=None):
+        super().__init__(number, *values, place)
+        self.number, self.values, self.place = number, values, place
+
+    @property
+    def where(self):
+        """The place as text, behind the number or the values; nothing where there is no place."""
+        return "" if self.place is None else f" at {self.place}"
+
+
+def short_test(place, found, expected):
+    """1 where fewer bytes are found than expected, with the place where they ran short (document 02, Q-2). Every 1 is given here."""
+    if found < expected:
+        raise Refused(1, found, expected, place=place)
 
 
 def place_test(place, size):

@@ -80,8 +80,9 @@ def second_name(word):
 
 
 def refusal_text(refused):
+    """The number, its values in brackets, and of a refusal 1 the place behind them."""
     values = ", ".join(map(str, refused.values))
-    return f"refused {refused.number} ({values})" if values else f"refused {refused.number}"
+    return f"refused {refused.number}" + (f" ({values})" if values else "") + refused.where
 
 
 def bytes_text(data):

@@ -11,7 +11,7 @@ use std::time::{Duration, Instant};
 /// The proved program's input has fewer bytes.
 const MOST_INPUT: usize = 131_072;
 
-/// Of so many cases that the Rust answers the model is asked one too.
+/// Of so many cases that the Rust answers the model is asked one too, beside those with a refusal 1.
 const EVERY: usize = 17;
 
 /// How many wrong cases are printed.
@@ -81,13 +81,14 @@ fn batch(cases: &mut (dyn Iterator<Item = String> + Send)) -> Vec<String> {
     taken
 }
 
-/// Judges each case by the Rust, and by the model those that the Rust cannot be asked and some of the others.
+/// Judges each case by the Rust, and by the model those that the Rust cannot be asked, those with a refusal 1, whose place the Rust has not, and some
+/// of the others.
 fn judged(cases: &[String], answers: &[String]) -> Result<Counts, String> {
     let mut verdicts: Vec<Verdict> = cases.iter().zip(answers).map(|(case, ours)| verdict::judge(case, ours)).collect();
     let is_ruled = |i: &usize| match verdicts[*i] {
         Verdict::Unasked => true,
         Verdict::Wrong(_) => false,
-        _ => i % EVERY == 0,
+        _ => verdict::has_short(&answers[*i]) || i % EVERY == 0,
     };
     let ruled: Vec<usize> = (0..cases.len()).filter(is_ruled).collect();
     let rules = model::answers(&ruled.iter().map(|i| cases[*i].clone()).collect::<Vec<_>>())?;

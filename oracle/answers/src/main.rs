@@ -1,8 +1,9 @@
-//! Holds the proved program replay against the Rust, case by case, and against the model of the rules in oracle/model where the Rust cannot be asked:
+//! Holds the proved program replay against the Rust, case by case, and against the model of the rules in oracle/model where the Rust cannot be asked,
+//! and for the place of a refusal 1, which the Rust has not:
 //! - `answers answer`: cases on standard input, the Rust's answers on standard output;
 //! - `answers compare PROGRAM SECONDS SEED`: PROGRAM, which is replay, against the Rust and the model;
-//! - `answers record FOLDER [--check]`: the recorded cases of test_replay in FOLDER, which is crates, and the Rust's answers to them, written anew or
-//!   only held against what is there.
+//! - `answers record FOLDER [--check]`: the recorded cases of test_replay in FOLDER, which is crates, and the Rust's answers to them, with the places
+//!   that the model gives, written anew or only held against what is there.
 mod built;
 mod case;
 mod compare;

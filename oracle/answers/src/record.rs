@@ -1,6 +1,8 @@
-//! Writes the recorded part of the list that the tests replay with no Rust at hand: cases, and the Rust's own answers to them.
+//! Writes the recorded part of the list that the tests replay with no Rust at hand: cases, and the Rust's own answers to them. The Rust has no place
+//! of a refusal 1: behind its found and expected stands the place that the rules give.
 use crate::case::{self, Case};
 use crate::generate;
+use crate::model;
 use crate::rows;
 use crate::rust::{self, Answer};
 use crate::verdict::{self, Verdict};
@@ -31,8 +33,9 @@ const GENERATED: &str = "# Generated";
 
 fn header() -> String {
     format!(
-        "{RECORDED} by oracle/record: the cases from here on have the Rust's own answers (spacepackets 0.19.0). With --check it tells whether it would\n\
-         # write others. Those up to the line that begins with '{GENERATED}' are chosen by hand: to add one, put it there, and run oracle/record.\n"
+        "{RECORDED} by oracle/record: the cases from here on have the Rust's own answers (spacepackets 0.19.0). Of a refusal 1 found and expected\n\
+         # are the Rust's, and the place, which it has not, is the rules'. With --check it tells whether it would write others. Those up to the\n\
+         # line that begins with '{GENERATED}' are chosen by hand: to add one, put it there, and run oracle/record.\n"
     )
 }
 
@@ -41,7 +44,8 @@ fn generated_line() -> String {
     format!("{GENERATED} by oracle/record, seed {SEED}: a case for each answer of each call {met}")
 }
 
-/// The Rust's answer to a case, where both answers are to be equal: where the Rust is asked and docs/DIFFERENCES.md has no row.
+/// The Rust's answer to a case, where both answers are to be equal, but for the place of a refusal 1: where the Rust is asked and docs/DIFFERENCES.md
+/// has no row.
 fn agreed(line: &str) -> Option<String> {
     let case = Case::read(line)?;
     match rust::answer(&case) {
@@ -128,6 +132,21 @@ fn spread(others: &BTreeMap<String, Vec<String>>) -> impl Iterator<Item = &Strin
     (0..PARTS).flat_map(move |part| others.values().map(move |lines| &lines[(part * 2 + 1) * lines.len() / (2 * PARTS)]))
 }
 
+/// The answers to recorded cases: the Rust's own. Where one has a refusal 1, the rules are asked too: without its places their answer has to be the
+/// Rust's, and then theirs is taken.
+fn recorded(lines: &[String]) -> Result<Vec<String>, String> {
+    let mut answers: Vec<String> = lines.iter().map(|line| agreed(line).ok_or(format!("no answer to {line}"))).collect::<Result<_, _>>()?;
+    let short: Vec<usize> = (0..lines.len()).filter(|i| verdict::has_short(&answers[*i])).collect();
+    let rules = model::answers(&short.iter().map(|i| lines[*i].clone()).collect::<Vec<_>>())?;
+    for (i, rule) in short.into_iter().zip(rules) {
+        if verdict::without_places(&rule).as_ref() != Some(&answers[i]) {
+            return Err(format!("the rules do not answer this case as the Rust does: {}\n  the Rust  {}\n  the rules {rule}", lines[i], answers[i]));
+        }
+        answers[i] = rule;
+    }
+    Ok(answers)
+}
+
 /// The recorded cases anew, and the answers to them, from the cases as they are.
 fn renewed(list: &str) -> Result<(String, String), String> {
     let chosen = chosen(list);
@@ -141,19 +160,20 @@ fn renewed(list: &str) -> Result<(String, String), String> {
     cases += &format!("\n{}\n", generated_line());
     let room = MOST_BYTES.checked_sub(cases.len()).ok_or("the recorded cases that are chosen by hand leave no room")?;
     cases.extend(generated(room, &chosen).iter().map(|line| format!("{line}\n")));
+    let mut said = recorded(&cases.lines().filter(|line| is_case(line)).map(String::from).collect::<Vec<_>>())?.into_iter();
     let mut answers = String::new();
     for line in cases.lines() {
         answers += line;
         if is_case(line) {
-            answers += &format!(" = {}", agreed(line).ok_or(format!("no answer to {line}"))?);
+            answers += &format!(" = {}", said.next().ok_or(format!("no answer to {line}"))?);
         }
         answers.push('\n');
     }
     Ok((cases, answers))
 }
 
-/// Looks at the answers above the recorded part, which are the model's: the Rust gives none of them to a line of one call, and where it answers
-/// otherwise both answers are as docs/DIFFERENCES.md has them. Answers how many of them the Rust answers otherwise.
+/// Looks at the answers above the recorded part, which are the model's: the Rust gives none of them to a line of one call, the place of a refusal 1
+/// left out, and where it answers otherwise both answers are as docs/DIFFERENCES.md has them. Answers how many of them the Rust answers otherwise.
 fn ruled(cases: &str, answers: &str) -> Result<usize, String> {
     let mut listed = 0;
     let mut lines = answers.lines();

@@ -72,7 +72,7 @@ fn row(number: u8, ours: String, rust: Answer) -> Option<Row> {
     Some(Row { number, ours, rust })
 }
 
-/// 6: an entity ID whose value is not all there.
+/// 6: an entity ID whose value is not all there. The TLV itself is short, so our place is 0.
 fn reading(case: &Case) -> Option<Row> {
     let place = match case.call {
         "entity.from_bytes" => 0,
@@ -81,7 +81,7 @@ fn reading(case: &Case) -> Option<Row> {
     };
     let bytes = case.bytes(0).get(place..).filter(|bytes| short_entity(bytes))?;
     let refusal = Refusal::new(1, &[bytes.len() as u64, 2 + bytes[1] as u64]);
-    row(6, refusal.say(), Answer::Panicked)
+    row(6, format!("{} at 0", refusal.say()), Answer::Panicked)
 }
 
 /// 3 and 5: a span that passes its source's end, 3 where it even starts behind it. The Rust's slice cannot be taken.

@@ -23,13 +23,38 @@ fn text(answer: &Answer) -> &str {
     }
 }
 
+/// What a refusal 1 begins with, up to its found.
+const SHORT: &str = "refused 1 (";
+
+/// Whether an answer has a refusal 1.
+pub fn has_short(answer: &str) -> bool {
+    answer.contains(SHORT)
+}
+
+/// An answer of ours, or of the model, without the places of its refusals 1: the Rust has found and expected alone, and demand 2 compares these only
+/// (document 02, Q-2). None where a refusal 1 has no place behind it.
+pub fn without_places(answer: &str) -> Option<String> {
+    let mut parts = answer.split(SHORT);
+    let mut text = parts.next()?.to_string();
+    for part in parts {
+        let (values, behind) = part.split_once(')')?;
+        let place = behind.strip_prefix(" at ")?;
+        let rest = place.trim_start_matches(|c: char| c.is_ascii_digit());
+        if rest.len() == place.len() {
+            return None;
+        }
+        text += &format!("{SHORT}{values}){rest}");
+    }
+    Some(text)
+}
+
 /// By the model of the rules: what is wrong, with both answers, where they differ.
 pub fn by_rules(line: &str, ours: &str, rules: &str) -> Option<Verdict> {
     (ours != rules).then(|| Verdict::Wrong(format!("{line}\n  ours      {ours}\n  the rules {rules}\n  a difference from the model of the rules")))
 }
 
-/// By the Rust. A row applies exactly where the answers differ, both are what it says, and no row is of a case on the domain. The Rust is not asked
-/// several calls of one line, which have a state.
+/// By the Rust, with the places of ours left out; that they are there is looked at. A row applies exactly where the answers differ, both are what it
+/// says, ours with its place, and no row is of a case on the domain. The Rust is not asked several calls of one line, which have a state.
 pub fn judge(line: &str, ours: &str) -> Verdict {
     let Some(cases) = Case::read_all(line) else {
         return Verdict::Wrong(format!("{line}\n  no case"));
@@ -43,7 +68,8 @@ pub fn judge(line: &str, ours: &str) -> Verdict {
         let place = if domain::on(case) { "on the domain" } else { "off the domain" };
         Verdict::Wrong(format!("{line}\n  ours     {ours}\n  the Rust {}\n  {what}, {place}", text(&rust)))
     };
-    let equal = rust == Answer::Said(ours.into());
+    let Some(compared) = without_places(ours) else { return wrong("a refusal 1 of ours has no place") };
+    let equal = rust == Answer::Said(compared);
     match rows::of(case) {
         None if equal => Verdict::Equal(domain::on(case)),
         None => wrong("a difference that no row lists"),
