@@ -1,6 +1,6 @@
 /* Balunduwa for C: the records of a CFDP journal, read and written, and the walk over them, as a static library for x86-64.
  *
- * Every function is proved, in crates/cabi, to answer what the customer's rules say ("document 01", and the requests since), and where they are silent
+ * Every function is proved, in crates/cabi, to answer what the customer's rules say ("document 01" and "document 02"), and where they are silent
  * what docs/DECISIONS.md says, for all arguments that keep the two rules below; this header and the compiler that reads it are not part of that proof.
  *
  * An answer is a struct by value. It begins with a refusal: number 0 where there is none, else a number from 1 to 15 (README.md, 'The answers by
@@ -29,7 +29,7 @@ extern "C" {
  *   0          the LV is short, or the TLV itself, whichever call reads it;
  *   2          the value of a filestore request or response is empty (the action would stand there);
  *   3          its first name is short;
- *   4 or more  its second name or its message is short: the place of that one's length byte, which may be missing too.
+ *   4 or more  its second name or its message is short: the place where the length byte stands, or would stand.
  * So the request 00 03 20 05 61 is refusal 1 (2, 6) at 3: two bytes found, six expected, from the first name's length byte on. Of every other refusal
  * third is 0. */
 typedef struct {

@@ -18,8 +18,8 @@ pub const LIMIT: usize = 65536;
 ///
 /// Refusal 1, too few bytes to read, is the one with three values: how many bytes were found, how many were expected, and the place of what ran short,
 /// counted from the start of the LV or TLV that is read, for [`kind_at`] too. The place is 0 where the LV is short, or the TLV itself; 2 where the value
-/// of a filestore request or response is empty; 3 where its first name is short; and where its second name or its message is, that of its length byte,
-/// which may be missing too.
+/// of a filestore request or response is empty; 3 where its first name is short; and where its second name or its message is short, the place
+/// where that one's length byte stands, or would stand.
 #[derive(Debug, Clone, Copy, PartialEq, Eq)]
 pub struct Refusal {
     /// The number.
@@ -252,7 +252,7 @@ pub fn summary(journal: &[u8]) -> Result<Summary, Refusal> {
     Ok(Summary { count: answer.count, end: End { place: answer.place, behind: answer.behind } })
 }
 
-/// What kind of record stands at a place of the journal, or why the plain reader of its type refuses it: the place that a refusal 1 carries is counted
+/// What kind of record stands at a place of the journal, or why the plain reader of its type refuses it. The place that a refusal 1 carries is counted
 /// from that record's start. Ask it where [`step`] tells a record: an end has no kind, and a whole end is refusal 1 (0, 2) at 0.
 pub fn kind_at(journal: &[u8], place: usize) -> Result<Kind, Refusal> {
     let answer = raw::kind_at(journal, place);

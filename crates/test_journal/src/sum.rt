@@ -96,7 +96,7 @@ fn say_start(journal: &[u8], out: &mut [u8]) {
 // From a new line on; or `pieces differ`, where the listing through a small buffer and that through a large one are not alike.
 pub(crate) fn say(journal: &[u8]) {
     test_output::line_end();
-    let mut small = [0u8; 101];
+    let mut small = [0u8; 133];
     let mut large = io::large_buffer();
     let sum = through(journal, &mut small);
     if !sum.same(through(journal, &mut large)) {
@@ -107,7 +107,7 @@ pub(crate) fn say(journal: &[u8]) {
     say_number(b"checksum ", sum.checksum as usize);
     say_start(journal, &mut large);
     let last = sum.last;
-    if last <= 101 {
+    if last <= 133 {
         say_last_line(&small[0..last]);
     }
 }
