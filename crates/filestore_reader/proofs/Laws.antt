@@ -48,6 +48,11 @@ module _ (bs : List ℕ) (at end : ℕ) where
       ∙ sym (mapA-mapA There (λ t. span (at + 1) (length (t .got))) (takeLv at (slice at end bs)))
       ∙ ap (mapA There) (sym (readLvAt-in bs at end k h))
 
+  pub readIfAt-none : at ≤ end → end ≤ length bs → end ≤ at → readIfAt bs at end true ≡ shortAt at 0 1
+  readIfAt-none h k j =
+      let z : end - at ≡ 0 = omega arith in
+      readIfAt-lv h k ∙ ap (mapA There) (readLvAt-none bs at end k h (omega arith) ∙ ap (λ (n : ℕ). shortAt at n 1) z)
+
   pub readSecondAt-not : readSecondAt bs at end false ≡ gives Absent
   unfolding readSecondAt takeSecond takeIf
   readSecondAt-not = refl

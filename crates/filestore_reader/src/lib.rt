@@ -14,7 +14,6 @@ use tlv::Tlv;
 ghost use mathlib.Core.Path.{_≡_};
 ghost use Prim.Native.Nat.{_≤_, _<_};
 ghost use lib.ListN.{length};
-ghost use Rattle.refusal.specs.Answer.{shortAt};
 ghost use Rattle.refusal.specs.Told.{toldChecked};
 ghost use Rattle.action.specs.Rules.{codeOf, dueOf};
 ghost use Rattle.filestore_base.specs.Meaning.{endOf};
@@ -42,13 +41,27 @@ enum SecondRead {
 
 // ---- reading: what stands from a place on, before the place end
 
-// An LV, where one is wanted.
+// Refusal 1, for a byte that is not there.
+fn no_byte(place: usize) -> Refusal
+    ensures { λ r. ⌜ r ≡ Refusal.FromSliceTooSmall 0 1 place ⌝ }
+{
+    Refusal::FromSliceTooSmall {
+        found: 0,
+        expected: 1,
+        place,
+    }
+}
+
+// An LV, where one is wanted. Where nothing is left it is refused here, so that LLVM drops the tests of the places in `Lv::read_at`.
 fn lv_if(buf: &[u8], at: usize, end: usize, wanted: bool) -> SecondRead
     requires { ⌜ (at ≤ end) × (end ≤ length (now buf)) ⌝ }
     ensures { λ r. ⌜ toldSecond r ≡ readIfAt (now (buf .entry)) at end wanted ⌝ }
 {
     if !wanted {
         return SecondRead::Read(SecondName::Absent);
+    }
+    if end <= at {
+        return SecondRead::Refused(no_byte(at));
     }
     match Lv::read_at(buf, at, end) {
         LvRead::Read(l) => SecondRead::Read(SecondName::There(l)),
@@ -176,28 +189,17 @@ fn behind_octet(
     }
 }
 
-// Refusal 1, for a byte that is not there.
-fn no_byte(place: usize) -> FoundRead
-    ensures { λ r. ⌜ toldFound r ≡ shortAt place 0 1 ⌝ }
-{
-    FoundRead::Refused(Refusal::FromSliceTooSmall {
-        found: 0,
-        expected: 1,
-        place,
-    })
-}
-
-// The value, where it ends before the first name: it has one byte or none.
+// The value, where it ends before the first name: it has one byte or none. What is missing would stand at its end.
 fn nameless(buf: &[u8], end: usize, response: bool) -> FoundRead
     requires { ⌜ (2 ≤ end) × (end < 4) × (end ≤ length (now buf)) ⌝ }
     ensures { λ r. ⌜ toldFound r ≡ readValue (now (buf .entry)) end response ⌝ }
 {
     if end == 2 {
-        return no_byte(2);
+        return FoundRead::Refused(no_byte(end));
     }
     match FilestoreActionCode::from_code(buf[2] / 16) {
         ActionCodeRead::Refused(r) => FoundRead::Refused(r),
-        ActionCodeRead::Read(_) => no_byte(3),
+        ActionCodeRead::Read(_) => FoundRead::Refused(no_byte(end)),
     }
 }
 
