@@ -74,10 +74,10 @@ fn left_before(at: usize, end: usize) -> SecondName
     requires { ⌜ at ≤ end ⌝ }
     ensures { λ r. ⌜ r ≡ leftBefore at end ⌝ }
 {
-    let len = end - at;
-    if len < 1 {
+    if end <= at {
         return SecondName::Absent;
     }
+    let len = end - at;
     SecondName::There(Lv { start: at, len })
 }
 
