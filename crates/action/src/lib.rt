@@ -1,12 +1,14 @@
 // The actions of a filestore request or response, and whether an action has a second name.
 // A port of FilestoreActionCode and fs_request_has_second_filename of src/cfdp/tlv/mod.rs of spacepackets 0.19.0.
+#![tactic(auto)]
+
 ghost use Rattle.std.specs.Prelude.{◌≡◌};
 ghost use Rattle.action.specs.Rules.{code_of, action_of, due_of};
 ghost use Rattle.action.specs.Told.{told_action};
 
 use refusal::Refusal;
 
-#[derive(Drop)]
+#[derive(Clone, Copy)]
 pub enum FilestoreActionCode {
     CreateFile,
     DeleteFile,
@@ -20,7 +22,7 @@ pub enum FilestoreActionCode {
 }
 
 // What reading an action's number answers.
-#[derive(Drop)]
+#[derive(Clone, Copy)]
 pub enum ActionCodeRead {
     Read(FilestoreActionCode),
     Refused(Refusal),

@@ -2,6 +2,8 @@
 // them again for C. An answer begins with a refusal, number 0 where there is none; behind it stands what the call gives, 0 where it refuses.
 // `NextAnswer` is otherwise. The plain readers, the writers and the steps return at once where they give a value, bytes or a record: so LLVM keeps that
 // way apart from the others and has nothing to move from one to another.
+#![tactic(auto)]
+
 mod answers;
 mod arguments;
 
@@ -28,7 +30,7 @@ use walk::{Step, step_at, summary_of};
 
 // A refusal: its number and its values, 0 for each that it does not carry.
 #[repr(C)]
-#[derive(Drop)]
+#[derive(Clone, Copy)]
 pub struct Numbered {
     pub number: usize,
     pub first: usize,
@@ -37,28 +39,28 @@ pub struct Numbered {
 }
 
 #[repr(C)]
-#[derive(Drop)]
+#[derive(Clone, Copy)]
 pub struct Span {
     pub start: usize,
     pub len: usize,
 }
 
 #[repr(C)]
-#[derive(Drop)]
+#[derive(Clone, Copy)]
 pub struct WrittenAnswer {
     pub refusal: Numbered,
     pub bytes: usize,
 }
 
 #[repr(C)]
-#[derive(Drop)]
+#[derive(Clone, Copy)]
 pub struct LvAnswer {
     pub refusal: Numbered,
     pub value: Span,
 }
 
 #[repr(C)]
-#[derive(Drop)]
+#[derive(Clone, Copy)]
 pub struct TlvAnswer {
     pub refusal: Numbered,
     pub tlv_type: u8,
@@ -66,7 +68,7 @@ pub struct TlvAnswer {
 }
 
 #[repr(C)]
-#[derive(Drop)]
+#[derive(Clone, Copy)]
 pub struct EntityAnswer {
     pub refusal: Numbered,
     pub width: usize,
@@ -75,7 +77,7 @@ pub struct EntityAnswer {
 
 // The second name is there where has_second is not 0.
 #[repr(C)]
-#[derive(Drop)]
+#[derive(Clone, Copy)]
 pub struct Request {
     pub action: u8,
     pub has_second: u8,
@@ -84,14 +86,14 @@ pub struct Request {
 }
 
 #[repr(C)]
-#[derive(Drop)]
+#[derive(Clone, Copy)]
 pub struct RequestAnswer {
     pub refusal: Numbered,
     pub request: Request,
 }
 
 #[repr(C)]
-#[derive(Drop)]
+#[derive(Clone, Copy)]
 pub struct Response {
     pub action: u8,
     pub status: u8,
@@ -102,7 +104,7 @@ pub struct Response {
 }
 
 #[repr(C)]
-#[derive(Drop)]
+#[derive(Clone, Copy)]
 pub struct ResponseAnswer {
     pub refusal: Numbered,
     pub response: Response,
@@ -111,7 +113,7 @@ pub struct ResponseAnswer {
 // `what` is 0 for a record, 1 for the whole end and 2 for the cut one. For a record, `value` is the span of its value and `next` the place behind it. For
 // an end, `value` is the span of the bytes that are left there, none at a whole end, and `next` the place of the end.
 #[repr(C)]
-#[derive(Drop)]
+#[derive(Clone, Copy)]
 pub struct StepAnswer {
     pub refusal: Numbered,
     pub what: u8,
@@ -123,7 +125,7 @@ pub struct StepAnswer {
 // The same, in two registers. A record's value starts 2 bytes behind its place and ends at `next`; a stump ends with the buffer. `what` is 3 where the
 // call refuses: `refusal` is the number, and its value is the buffer's length (14) or the place (15).
 #[repr(C)]
-#[derive(Drop)]
+#[derive(Clone, Copy)]
 pub struct NextAnswer {
     pub next: usize,
     pub tlv_type: u8,
@@ -132,7 +134,7 @@ pub struct NextAnswer {
 }
 
 #[repr(C)]
-#[derive(Drop)]
+#[derive(Clone, Copy)]
 pub struct SummaryAnswer {
     pub refusal: Numbered,
     pub count: usize,
@@ -142,7 +144,7 @@ pub struct SummaryAnswer {
 
 // `kind` is 0 for a request, 1 for a response, 2 for an entity ID and 3 for any other record.
 #[repr(C)]
-#[derive(Drop)]
+#[derive(Clone, Copy)]
 pub struct KindAnswer {
     pub refusal: Numbered,
     pub kind: u8,

@@ -1,6 +1,8 @@
 // The entity ID TLV of CFDP: type 6, and as its value an unsigned big-endian number of 1, 2, 4 or 8 bytes.
 // A port of EntityIdTlv in src/cfdp/tlv/mod.rs and of UnsignedByteField in src/util.rs of spacepackets 0.19.0, changed: numbered answers, and
 // refusals before the first byte is read or written.
+#![tactic(auto)]
+
 ghost use Rattle.std.specs.Prelude.{◌≡◌, ◌+◌, ◌≤◌, true, length, take, drop};
 ghost use Rattle.refusal.specs.Answer.{map_answer};
 ghost use Rattle.refusal.specs.Told.{told_written, told_checked, told_length};
@@ -16,19 +18,19 @@ use refusal::{Checked, Length, Refusal, Written};
 use tlv::{StandardType, Tlv, TlvRead, TlvType, TlvTypeField};
 
 // A number and how many bytes it is written in.
-#[derive(Drop)]
+#[derive(Clone, Copy)]
 pub struct UnsignedByteField {
     pub width: usize,
     pub value: u64,
 }
 
-#[derive(Drop)]
+#[derive(Clone, Copy)]
 pub struct EntityIdTlv {
     pub entity_id: UnsignedByteField,
 }
 
 // What building and reading answer.
-#[derive(Drop)]
+#[derive(Clone, Copy)]
 pub enum EntityIdRead {
     Read(EntityIdTlv),
     Refused(Refusal),

@@ -1,6 +1,8 @@
 // What a filestore request and a filestore response have in common: an action, its names, four low bits, and a message or none.
 // A port of FilestoreTlvBase of src/cfdp/tlv/mod.rs of spacepackets 0.19.0 and of what both TLVs share, changed: spans for slices, numbered
 // answers, and one test for both. The crate filestore_reader reads them; filestore_request and filestore_response have the TLVs.
+#![tactic(auto)]
+
 ghost use Rattle.std.specs.Prelude.{◌≡◌, ◌+◌, ◌*◌, ◌≤◌, length, set};
 ghost use Rattle.bluebook.specs.Layouts.{lv_if};
 ghost use Rattle.refusal.specs.Answer.{gives};
@@ -17,14 +19,14 @@ use refusal::{Checked, Length, Refusal, Sameness, Written};
 use tlv::TlvType;
 
 // A second name is either there, with its span, or absent. The message of a `FilestoreTlvBase` is too: a request has none.
-#[derive(Drop)]
+#[derive(Clone, Copy)]
 pub enum SecondName {
     There(Lv),
     Absent,
 }
 
 // What a request or a response holds. The low bits are a response's status, and a request's spare bits. A message is there in a response.
-#[derive(Drop)]
+#[derive(Clone, Copy)]
 pub struct FilestoreTlvBase {
     pub action_code: FilestoreActionCode,
     pub low_bits: u8,

@@ -1,6 +1,8 @@
 // Reads a filestore request or response: its names and message as spans of the buffer, and how many bytes are left behind them in its value.
 // A port of what the two `from_bytes` of src/cfdp/tlv/mod.rs of spacepackets 0.19.0 share, changed: spans for slices, numbered answers, one
 // reader for both, and strict reading beside it.
+#![tactic(auto)]
+
 ghost use Rattle.std.specs.Prelude.{◌≡◌, ◌≤◌, ◌<◌, length};
 ghost use Rattle.refusal.specs.Told.{told_checked};
 ghost use Rattle.action.specs.Rules.{code_of, due_of};
@@ -16,21 +18,21 @@ use refusal::{Checked, Length, Refusal};
 use tlv::Tlv;
 
 // What was read, and how many bytes are left behind it in the value.
-#[derive(Drop)]
+#[derive(Clone, Copy)]
 pub struct Found {
     pub base: FilestoreTlvBase,
     pub left: usize,
 }
 
 // What reading answers.
-#[derive(Drop)]
+#[derive(Clone, Copy)]
 pub enum FoundRead {
     Read(Found),
     Refused(Refusal),
 }
 
 // What reading a second name answers.
-#[derive(Drop)]
+#[derive(Clone, Copy)]
 enum SecondRead {
     Read(SecondName),
     Refused(Refusal),

@@ -1,6 +1,8 @@
 // The filestore request TLV. Its names are spans of a lent buffer.
 // A port of FilestoreRequestTlv of src/cfdp/tlv/mod.rs of spacepackets 0.19.0, changed: spans for slices, numbered answers, building tests that
 // count every byte of the value, and strict reading. What it shares with a response is in filestore_base and filestore_reader.
+#![tactic(auto)]
+
 ghost use Rattle.std.specs.Prelude.{◌≡◌, true, length};
 ghost use Rattle.refusal.specs.Answer.{map_answer};
 ghost use Rattle.refusal.specs.Told.{told_written, told_length, told_sameness};
@@ -17,7 +19,7 @@ use lv::Lv;
 use refusal::{Checked, Length, Refusal, Sameness, Written};
 use tlv::{StandardType, TlvType, TlvTypeField};
 
-#[derive(Drop)]
+#[derive(Clone, Copy)]
 pub struct FilestoreRequestTlv {
     pub action_code: FilestoreActionCode,
     pub first_name: Lv,
@@ -25,7 +27,7 @@ pub struct FilestoreRequestTlv {
 }
 
 // What building and reading a request answer.
-#[derive(Drop)]
+#[derive(Clone, Copy)]
 pub enum FilestoreRequestRead {
     Read(FilestoreRequestTlv),
     Refused(Refusal),

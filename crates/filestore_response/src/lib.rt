@@ -1,6 +1,8 @@
 // The filestore response TLV. Its names and its message are spans of a lent buffer.
 // A port of FilestoreResponseTlv of src/cfdp/tlv/mod.rs of spacepackets 0.19.0, changed: spans for slices, numbered answers, building tests that
 // count every byte of the value, and strict reading. What it shares with a request is in filestore_base and filestore_reader.
+#![tactic(auto)]
+
 ghost use Rattle.std.specs.Prelude.{◌≡◌, true, length};
 ghost use Rattle.refusal.specs.Answer.{map_answer};
 ghost use Rattle.refusal.specs.Told.{told_written, told_length, told_sameness};
@@ -19,7 +21,7 @@ use lv::Lv;
 use refusal::{Checked, Length, Refusal, Sameness, Written};
 use tlv::{StandardType, TlvType, TlvTypeField};
 
-#[derive(Drop)]
+#[derive(Clone, Copy)]
 pub struct FilestoreResponseTlv {
     pub action_code: FilestoreActionCode,
     pub status_code: u8,
@@ -29,7 +31,7 @@ pub struct FilestoreResponseTlv {
 }
 
 // What building and reading a response answer.
-#[derive(Drop)]
+#[derive(Clone, Copy)]
 pub enum FilestoreResponseRead {
     Read(FilestoreResponseTlv),
     Refused(Refusal),

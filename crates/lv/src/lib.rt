@@ -1,5 +1,7 @@
 // The length-value (LV) of CFDP 5.1.8: one length byte L, then L bytes. An `Lv` is the span of its value in a lent buffer.
 // A port of src/cfdp/lv.rs of spacepackets 0.19.0, changed: spans for slices, numbered answers, and refusals before the first byte is written.
+#![tactic(auto)]
+
 ghost use Rattle.std.specs.Prelude.{◌≡◌, length, eqb};
 ghost use Rattle.refusal.specs.Answer.{short_at};
 ghost use Rattle.refusal.specs.Told.{told_written, told_checked, told_length, told_sameness};
@@ -10,14 +12,14 @@ ghost use Rattle.lv.specs.Told.{told_lv};
 use refusal::{Checked, Length, Refusal, Sameness, Written};
 
 // Where a value lies in the buffer that it was read from, or that it is written from.
-#[derive(Drop)]
+#[derive(Clone, Copy)]
 pub struct Lv {
     pub start: usize,
     pub len: usize,
 }
 
 // What building and reading answer.
-#[derive(Drop)]
+#[derive(Clone, Copy)]
 pub enum LvRead {
     Read(Lv),
     Refused(Refusal),

@@ -1,4 +1,6 @@
 // Unsigned big-endian numbers of up to 8 bytes. They are read and written through an array of 8: LLVM makes a loop over it one load or one store.
+#![tactic(auto)]
+
 ghost use Rattle.std.specs.Prelude.{◌≡◌, ◌≤◌, length};
 ghost use Rattle.bluebook.specs.Layouts.{be_bytes};
 ghost use Rattle.refusal.specs.Answer.{also};
@@ -10,7 +12,7 @@ ghost use Rattle.splice.specs.Writing.{room_at, Wrote};
 use refusal::{Checked, Refusal, Written};
 
 // What reading a number answers.
-#[derive(Drop)]
+#[derive(Clone, Copy)]
 pub enum Number {
     Is(u64),
     Refused(Refusal),

@@ -1,5 +1,7 @@
 // An example of a program over the library, run on samples/cut.tlv: it prints the names of a journal's first request, appends a response to that
 // request, over the stump, and lists the journal that this makes.
+#![tactic(auto)]
+
 ghost use Rattle.std.specs.Prelude.{◌≡◌, length};
 
 use filestore_base::SecondName;

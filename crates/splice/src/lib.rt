@@ -1,4 +1,6 @@
 // Bytes into a lent buffer: the one copy of the library, and its one comparison.
+#![tactic(auto)]
+
 ghost use Rattle.std.specs.Prelude.{◌≡◌, ◌+◌, ◌*◌, ◌≤◌, length};
 ghost use Rattle.bluebook.specs.Layouts.{Octets};
 ghost use Rattle.refusal.specs.Told.{told_written};

@@ -3,6 +3,8 @@
 // A record is said by five numbers: its place, its type byte, its value's start and length, and the place behind it. An end is said as whole
 // and its place, or as cut, its place and the count of bytes behind; a summary by the number of records and the end.
 // No contract states what is written: a public function here answers nothing and changes nothing that is lent.
+#![tactic(auto)]
+
 ghost use Rattle.std.specs.Prelude.{◌≡◌};
 
 use action::{ActionCodeRead, FilestoreActionCode};

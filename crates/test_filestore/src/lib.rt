@@ -1,5 +1,7 @@
 // Makes the calls of action, filestore_request and filestore_response that a case asks for, and says what they answer. Nothing lent is changed: a writer writes to a
 // copy. The tables are as in test_formats.
+#![tactic(auto)]
+
 mod action_rows;
 mod request_rows;
 mod response_rows;

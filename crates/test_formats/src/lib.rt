@@ -2,6 +2,8 @@
 //
 // The calls stand in tables. A row is a call's name, with a letter for each word that it takes, and beside it the call itself and its kind of answer. To add a
 // call, add its row; `Word` in the program test_replay has the letters.
+#![tactic(auto)]
+
 mod entity_rows;
 mod ground_rows;
 mod lv_rows;

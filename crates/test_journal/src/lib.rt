@@ -1,4 +1,6 @@
 // Makes the calls of walk, walker, kind and listing that a case asks for, and says what they answer, on standard output. The tables are as in test_formats.
+#![tactic(auto)]
+
 mod sum;
 
 ghost use Rattle.std.specs.Prelude.{◌≡◌};

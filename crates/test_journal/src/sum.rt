@@ -5,7 +5,7 @@ use test_output::text;
 use test_text::{checksum, next_line, part};
 
 // The pieces of a listing together. last is the length of the last one.
-#[derive(Drop)]
+#[derive(Clone, Copy)]
 struct Sum {
     lines: usize,
     bytes: usize,

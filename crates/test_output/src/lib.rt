@@ -1,6 +1,8 @@
 // Text, numbers and bytes on standard output, for the test programs. The module notation has the form in which bytes are said, docs/TESTS.md that of a case; the module
 // recut has the words of the program test_recut.
 // No contract states what is written: a public function here answers nothing and changes nothing that is lent.
+#![tactic(auto)]
+
 pub mod codes;
 mod notation;
 pub mod recut;

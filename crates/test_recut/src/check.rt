@@ -52,7 +52,7 @@ fn records(s: &[u8], c: Cut, n: usize, w: Wrong, a: &[u8], ends: &[usize]) -> u8
 }
 
 // What a walk tells at its end: how many records it listed, their end, how many bytes that and what it left behind are, and whether it left nothing.
-#[derive(Drop)]
+#[derive(Clone, Copy)]
 pub struct Told {
     pub count: usize,
     pub place: usize,

@@ -22,6 +22,8 @@
 // written, cut and appended to. The modules, from the input on: list (reads it), due (what is due of a walk by the list), check (one walk against
 // that), cuts (writes, cuts and appends), wrong (the lists that are wrong on purpose), say, sums. The crate test_output has
 // the words.
+#![tactic(auto)]
+
 mod check;
 mod cuts;
 mod due;

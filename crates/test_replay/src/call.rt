@@ -5,7 +5,7 @@ use test_text::{Words, find, part};
 
 // n is the length of the key, more than a key has room for where the call is none. `left` has the words before the first bytes, and w all of them. The word of the first
 // bytes stands in the call from `first` up to `first_end`, that of the last likewise; a call without bytes has 0 for all four.
-#[derive(Drop)]
+#[derive(Clone, Copy)]
 pub struct Call {
     pub n: usize,
     pub left: Words,

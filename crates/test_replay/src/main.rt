@@ -2,6 +2,8 @@
 // says where the stored answers come from.
 // The modules, from the input on: lines (cuts it into lines and calls), call and word (read a call), walker_rows (the calls that have a state), tables (hands the others
 // to the crates test_journal, test_filestore and test_formats). test_answers says what they answer.
+#![tactic(auto)]
+
 mod call;
 mod lines;
 mod tables;

@@ -5,7 +5,7 @@ use test_output::numbered;
 use test_text::{Words, is_row, part};
 
 // A walker: how many bytes it goes over, which stand at the front of held, and its place.
-#[derive(Drop)]
+#[derive(Clone, Copy)]
 pub struct State {
     pub len: usize,
     pub at: usize,

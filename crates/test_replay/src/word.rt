@@ -5,7 +5,7 @@ use test_text::{Read, decimal, find, part};
 const NONE: u8 = b'!';
 
 // x is the number; that of a custom type is 256 more than its label. Of a second name it is 1 where it is there, and then start and len are its span.
-#[derive(Drop)]
+#[derive(Clone, Copy)]
 pub struct Word {
     pub letter: u8,
     pub x: usize,

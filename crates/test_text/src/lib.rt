@@ -1,5 +1,7 @@
 // Small steps on text that the test programs share: digits and numbers, lines, the notation of bytes, rows, a checksum, and room for bytes.
 // They take any arguments.
+#![tactic(auto)]
+
 mod notation;
 
 ghost use Rattle.std.specs.Prelude.{◌≡◌, ◌+◌, length, drop, replicate};
@@ -7,7 +9,7 @@ ghost use Rattle.test_text.specs.Text.{digit, stretch, before, line_at, next_lin
 ghost use Rattle.test_text.specs.Notation.{bytes_of, Left};
 
 // A number that was read, or none.
-#[derive(Drop)]
+#[derive(Clone, Copy)]
 pub enum Read {
     Is(usize),
     No,
@@ -197,7 +199,7 @@ pub fn room() -> [u8; 66000]
 
 // The last nine numbers of a call, in order: a call with two numbers has them in n8 and n9. A type field is one number, 256 and more for a custom label, and a second
 // name is three: 1 where it is there, its start and its length.
-#[derive(Drop)]
+#[derive(Clone, Copy)]
 pub struct Words {
     pub n1: usize,
     pub n2: usize,

@@ -1,5 +1,7 @@
 // A walker for callers that keep its place as a plain number between the calls: each call makes a walker of src at a place, and calls it once.
 // Rattle does not follow a struct that holds a slice, so these are proved by hand, and who calls them has no walk by hand to write.
+#![tactic(auto)]
+
 ghost use Rattle.std.specs.Prelude.{◌≡◌};
 ghost use Rattle.walk.specs.Rules.{step_at, after_of};
 ghost use Rattle.walk.specs.Told.{told_step};
@@ -24,7 +26,7 @@ pub fn look_at(src: &[u8], at: usize) -> Step
 }
 
 // What a walker's step answers, and where the step leaves it.
-#[derive(Drop)]
+#[derive(Clone, Copy)]
 pub struct Stepped {
     pub step: Step,
     pub at: usize,

@@ -1,0 +1,15 @@
+-- `splice::put` meets its contract: past the end 15, without room 2, and else the bytes are laid. Assumes nothing.
+use mathlib.Core.Path.{refl, sym, ◌∙◌}
+use native.Mathlib.Omega.{arith}
+use Rattle.splice.proofs.Writing.{room_for_in, room_for_out, room_at_past, room_at_there, wrote, wrote_not}
+use borrow.Author.Rules.{rules}
+use Rattle.splice.proofs.put.Goals as goal
+
+pub returns-then-dst-at : goal.returns-then-dst-at
+returns-then-dst-at c = wrote_not _ _ _ _ _ (sym (room_at_past _ _ _ (omega arith)))
+
+pub returns-then-found-expected : goal.returns-then-found-expected
+returns-then-found-expected c = wrote_not _ _ _ _ _ (sym (room_at_there _ _ _ (omega arith) ∙ room_for_out _ _ c.if-found-expected.true))
+
+pub returns : goal.returns
+returns c = wrote _ _ _ _ _ _ (room_at_there _ _ _ (omega arith) ∙ room_for_in _ _ (omega arith)) refl c.lay.ensures
