@@ -7,7 +7,7 @@ use mathlib.Core.Bool.{Bool, true, false}
 use mathlib.Core.Option.{Option, some, none}
 use mathlib.Core.List.{List, [], ◌∷◌, ◌++◌, append_assoc, append-nil}
 use lib.ListN.{length, drop, get_or, length-append}
-use lib.Dec.{leb, ltb}
+use lib.Dec.{ltb}
 use Rattle.bluebook.specs.Layouts.{Octets, actions, second_present, there, lv, lv_if, tlv}
 use Rattle.refusal.specs.Answer.{Answer, gives, map_answer, and_then, RefusedBy, short_at, ShortBy, limit_test}
 use Rattle.refusal.specs.Reader.{Took, took, Exactly}

@@ -8,7 +8,6 @@ use Rattle.refusal.specs.Told.{told_checked}
 use Rattle.refusal.proofs.Laws.{limit_in, limit_over}
 use Rattle.filestore_base.proofs.Laws.{build_test_refused, build_test_length}
 use Rattle.filestore_base.specs.Rules.{parts_test}
-use borrow.Author.Rules.{rules}
 use Rattle.filestore_base.proofs.FilestoreTlvBase.build_test.Goals as goal
 use Rattle.filestore_base.proofs.FilestoreTlvBase.build_test.Goals.{In_default}
 

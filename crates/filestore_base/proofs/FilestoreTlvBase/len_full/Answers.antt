@@ -7,7 +7,6 @@ use Rattle.refusal.specs.Told.{told_length}
 use Rattle.refusal.specs.declared.Length.{Length}
 use Rattle.filestore_base.proofs.Laws.{len_value_gives, len_full_is}
 use Rattle.filestore_base.specs.Rules.{len_value}
-use borrow.Author.Rules.{rules}
 use Rattle.filestore_base.proofs.FilestoreTlvBase.len_full.Goals as goal
 use Rattle.filestore_base.proofs.FilestoreTlvBase.len_full.Goals.{After-len_value}
 

@@ -4,7 +4,6 @@ use Rattle.refusal.specs.Answer.{gives}
 use Rattle.refusal.specs.Told.{told_checked}
 use Rattle.filestore_base.proofs.Laws.{built, len_value_refused, len_value_passed}
 use Rattle.filestore_base.specs.Rules.{build_test}
-use borrow.Author.Rules.{rules}
 use Rattle.filestore_base.proofs.FilestoreTlvBase.len_value.Goals as goal
 use Rattle.filestore_base.proofs.FilestoreTlvBase.len_value.Goals.{In_default}
 

@@ -7,7 +7,6 @@ use Rattle.lv.specs.Rules.{size_test}
 use Rattle.action.specs.Rules.{due_of}
 use Rattle.filestore_base.specs.Rules.{size_if, due_test, parts_test}
 use Rattle.filestore_base.proofs.Laws.{behind}
-use borrow.Author.Rules.{rules}
 use Rattle.filestore_base.proofs.FilestoreTlvBase.parts_test.Goals as goal
 use Rattle.filestore_base.proofs.FilestoreTlvBase.parts_test.Goals.{In_default, In_default-test, In_default-test-2, In_default-test-3}
 

@@ -1,13 +1,7 @@
 -- `FilestoreTlvBase::put_head` meets its contract: behind the building tests each of the three numbers is a byte. Assumes nothing.
-use mathlib.Core.Path.{ap, ◌∙◌}
 use native.Mathlib.Omega.{arith}
-use Prim.Native.Nat.{◌+◌, ◌*◌}
-use lib.ListN.{set, length-set}
-use Rattle.tlv.specs.Kinds.{code_of}
 use Rattle.action.proofs.Laws.{code_known}
 use Rattle.filestore_base.proofs.Laws.{Parts, parts, built}
-use Rattle.filestore_base.specs.Meaning.{type_in}
-use borrow.Author.Rules.{rules}
 use Rattle.filestore_base.proofs.FilestoreTlvBase.put_head.Goals as goal
 use Rattle.filestore_base.proofs.FilestoreTlvBase.put_head.Goals.{Start}
 

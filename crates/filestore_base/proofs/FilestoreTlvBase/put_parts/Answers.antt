@@ -5,7 +5,6 @@ use Rattle.lv.proofs.Laws.{write_test_passed, write_lv_at_laid}
 use Prim.Native.Nat.{ℕ, ◌+◌}
 use lib.ListN.{length}
 use Rattle.filestore_base.proofs.Laws.{parts_laid, Writable, writable, fits_if, sound_if, size_if_passed}
-use borrow.Author.Rules.{rules}
 use Rattle.filestore_base.proofs.FilestoreTlvBase.put_parts.Goals as goal
 use Rattle.filestore_base.proofs.FilestoreTlvBase.put_parts.Goals.{Start}
 
@@ -16,7 +15,7 @@ ready c = writable _ _ c.requires.0
 pub put-requires : goal.put-requires
 put-requires c =
     let a = c.args in let w = ready (goal.at.put-requires c).Start in
-    fits_if a.self.second_name a.src.now (a.self.first_name.len + 4) (length c.write_at.new.buf) (sound_if a.self.second_name a.src.now w.whole.second w.spans.second) (omega (arith, c.write_at.auto.1.1.0, c.requires.1))
+    fits_if a.self.second_name a.src.now (a.self.first_name.len + 4) (length c.write_at.new.buf) (sound_if a.self.second_name a.src.now w.whole.second w.spans.second) (omega arith)
 
 pub len_full-requires : goal.len_full-requires
 len_full-requires c =
@@ -25,7 +24,7 @@ len_full-requires c =
 pub put-requires-2 : goal.put-requires-2
 put-requires-2 c =
     let a = c.args in let w = ready (goal.at.put-requires-2 c).Start in
-    fits_if a.self.message a.src.now (a.self.first_name.len + 4 + c.len_full.result) (length c.put.new.buf) (sound_if a.self.message a.src.now w.whole.message w.spans.message) (omega (arith, c.len_full.ensures, c.put.auto.1.1.0, c.write_at.auto.1.1.0, c.requires.1))
+    fits_if a.self.message a.src.now (a.self.first_name.len + 4 + c.len_full.result) (length c.put.new.buf) (sound_if a.self.message a.src.now w.whole.message w.spans.message) (omega arith)
 
 pub returns : goal.returns
 returns c =

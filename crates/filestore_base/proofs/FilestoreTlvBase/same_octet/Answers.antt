@@ -1,7 +1,6 @@
 -- `FilestoreTlvBase::same_octet` meets its contract: equal codes, then equal low bits. Assumes nothing.
 use mathlib.Core.Path.{sym, ◌∙◌}
 use Rattle.filestore_base.proofs.Laws.{same_octet_on, same_octet_off}
-use borrow.Author.Rules.{rules}
 use Rattle.filestore_base.proofs.FilestoreTlvBase.same_octet.Goals as goal
 
 pub returns-then-to_code : goal.returns-then-to_code

@@ -6,7 +6,6 @@ use Rattle.refusal.proofs.Laws.{also_refused}
 use Rattle.lv.specs.Rules.{span_test}
 use Rattle.filestore_base.specs.Rules.{span_if, spans_test}
 use Rattle.filestore_base.proofs.Laws.{behind}
-use borrow.Author.Rules.{rules}
 use Rattle.filestore_base.proofs.FilestoreTlvBase.span_test.Goals as goal
 use Rattle.filestore_base.proofs.FilestoreTlvBase.span_test.Goals.{In_default, In_default-test}
 

@@ -11,7 +11,6 @@ use Rattle.filestore_base.specs.Meaning.{base_of}
 use Rattle.filestore_base.specs.Rules.{write_test, len_of, len_if}
 use Rattle.filestore_base.specs.declared.SecondName.TheVariants.{Absent}
 use Rattle.filestore_base.specs.declared.FilestoreTlvBase.{FilestoreTlvBase}
-use borrow.Author.Rules.{rules}
 use Rattle.filestore_base.proofs.FilestoreTlvBase.write_request.Goals as goal
 use Rattle.filestore_base.proofs.FilestoreTlvBase.write_request.Goals.{Else-found-expected, In_default}
 
@@ -47,25 +46,20 @@ put_head-requires c = ((ready (goal.at.put_head-requires c).In_default).built, r
 
 pub put-requires : goal.put-requires
 put-requires c =
-    let first = c in
-    let head = c in
-    let else = c in
-    let a = else.args in
+    let a = c.args in
     let w = ready (goal.at.put-requires c).In_default in
-    fits_if a.self.second_name a.src.now (a.self.first_name.len + 4) (length first.write_at.new.buf) (sound_if a.self.second_name a.src.now w.whole.second w.spans.second) (omega (arith, first.write_at.auto.1.1.0, head.put_head.auto.1.0, room (goal.at.put-requires c).Else-found-expected))
+    let e = room (goal.at.put-requires c).Else-found-expected in
+    fits_if a.self.second_name a.src.now (a.self.first_name.len + 4) (length c.write_at.new.buf) (sound_if a.self.second_name a.src.now w.whole.second w.spans.second) (omega arith)
 
 pub returns : goal.returns
 returns c =
-    let second = c in
-    let first = c in
-    let head = c in
-    let else = c in
-    let a = else.before.before.before.before.before.before.before.before.args in
-    let told = passed else.before.before in
+    let a = c.args in
+    let told = passed (goal.at.returns c).In_default in
+    let e = room (goal.at.returns c).Else-found-expected in
     let w = writable _ _ told in
     let n = a.self.first_name.len + 4 in
-    let fits : len_of (request a.self) + 2 ≤ length head.put_head.new.buf = omega (arith, head.put_head.auto.1.0, room (goal.at.returns c).Else-found-expected) in
-    write_base_room _ _ _ told _ _ _ (room (goal.at.returns c).Else-found-expected) else.before.len.ensures head.put_head.ensures
+    let fits : len_of (request a.self) + 2 ≤ length c.put_head.new.buf = omega arith in
+    write_base_room _ _ _ told _ _ _ e c.len-expected.ensures c.put_head.ensures
     (parts_laid _ _ _ told n (n + len_if a.self.second_name) _ _ _ fits refl refl
-    (write_lv_at_laid a.self.first_name a.src.now head.put_head.new.buf _ 3 (write_test_passed a.self.first_name a.src.now w.whole.first w.spans.first) (omega arith) first.write_at.ensures)
-    second.put.ensures (put_absent Absent a.src.now _ _ refl))
+    (write_lv_at_laid a.self.first_name a.src.now c.put_head.new.buf _ 3 (write_test_passed a.self.first_name a.src.now w.whole.first w.spans.first) (omega arith) c.write_at.ensures)
+    c.put.ensures (put_absent Absent a.src.now _ _ refl))

@@ -3,7 +3,6 @@ use mathlib.Core.Path.{sym, ap, ◌∙◌}
 use Rattle.refusal.specs.Told.{told_checked}
 use Rattle.refusal.proofs.Laws.{also_refused}
 use Rattle.filestore_base.proofs.Laws.{behind, write_test_is}
-use borrow.Author.Rules.{rules}
 use Rattle.filestore_base.proofs.FilestoreTlvBase.write_test.Goals as goal
 
 pub returns-in-Refused : goal.returns-in-Refused

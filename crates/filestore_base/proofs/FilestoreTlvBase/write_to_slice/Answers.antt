@@ -8,7 +8,6 @@ use Rattle.refusal.specs.Answer.{gives}
 use Rattle.refusal.specs.Told.{told_checked}
 use Rattle.filestore_base.proofs.Laws.{Writable, writable, built, write_base_refused, write_base_small, write_base_room}
 use Rattle.filestore_base.specs.Rules.{write_test, len_of}
-use borrow.Author.Rules.{rules}
 use Rattle.filestore_base.proofs.FilestoreTlvBase.write_to_slice.Goals as goal
 use Rattle.filestore_base.proofs.FilestoreTlvBase.write_to_slice.Goals.{Else-found-expected, In_default}
 

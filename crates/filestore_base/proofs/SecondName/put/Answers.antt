@@ -1,11 +1,9 @@
 -- `SecondName::put` meets its contract: what is there is laid as an LV, and what is absent changes nothing. Assumes nothing.
-use mathlib.Core.Path.{◌∙◌}
 use native.Mathlib.Omega.{arith}
 use Prim.Native.Nat.{◌+◌, ◌≤◌}
-use lib.ListN.{length, length-set}
+use lib.ListN.{length}
 use Rattle.lv.proofs.Laws.{Sound}
 use Rattle.filestore_base.proofs.Laws.{fits, put_there, put_absent}
-use borrow.Author.Rules.{rules}
 use Rattle.filestore_base.proofs.SecondName.put.Goals as goal
 use Rattle.filestore_base.proofs.SecondName.put.Goals.{In-There}
 
