@@ -9,18 +9,21 @@ pub mod recut;
 
 ghost use Rattle.std.specs.Prelude.{◌≡◌};
 
+// The file descriptor of standard output.
+const STDOUT: i32 = 1;
+
 // Text as it is.
 pub fn text(s: &[u8])
     ensures { result ≡ tt }
 {
-    io::write_all(libc::STDOUT_FILENO, s);
+    io::write_all(STDOUT, s);
 }
 
 // A number.
 pub fn count(x: usize)
     ensures { result ≡ tt }
 {
-    io::print_decimal(libc::STDOUT_FILENO, x as u64);
+    io::print_decimal(STDOUT, x as u64);
 }
 
 // A number with words before it.

@@ -2,7 +2,7 @@
 // it, which stands for that byte COUNT times. `bytes` in test_text reads this back, and more.
 ghost use Rattle.std.specs.Prelude.{◌≤◌};
 
-use crate::{numbered, text};
+use crate::{STDOUT, numbered, text};
 
 // The place of the first byte, at the place `from` or behind it, that is not x; or the length.
 fn run_end(s: &[u8], x: u8, from: usize) -> usize
@@ -24,12 +24,12 @@ fn say_run(x: u8, count: usize, before: usize) {
         if 4 < before {
             text(b".");
         }
-        io::print_hex(libc::STDOUT_FILENO, x as u64, 2);
+        io::print_hex(STDOUT, x as u64, 2);
     } else {
         if 0 < before {
             text(b".");
         }
-        io::print_hex(libc::STDOUT_FILENO, x as u64, 2);
+        io::print_hex(STDOUT, x as u64, 2);
         numbered(b"*", count);
     }
 }

@@ -2,7 +2,6 @@
 use mathlib.Core.Path.{sym, ◌∙◌}
 use Rattle.refusal.proofs.Laws.{also_of}
 use Rattle.entity_id.proofs.Laws.{entity_test_is}
-use borrow.Author.Rules.{rules}
 use Rattle.entity_id.proofs.entity_test.Goals as goal
 
 pub returns : goal.returns

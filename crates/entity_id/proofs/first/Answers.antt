@@ -8,7 +8,6 @@ use Rattle.refusal.proofs.Laws.{gives_same, gives_or_refuses}
 use Rattle.number.specs.Rules.{of_be}
 use Rattle.number.specs.Told.{told_number}
 use Rattle.number.proofs.Laws.{read_be_in}
-use borrow.Author.Rules.{rules}
 use Rattle.entity_id.proofs.first.Goals as goal
 use Rattle.entity_id.proofs.first.Goals.{After-read}
 

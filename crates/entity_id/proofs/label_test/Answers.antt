@@ -2,7 +2,6 @@
 use mathlib.Core.Path.{refl, sym, ap, ◌∙◌}
 use Rattle.entity_id.specs.Rules.{type_test, label_test}
 use Rattle.entity_id.proofs.Laws.{label_test_standard, label_test_custom}
-use borrow.Author.Rules.{rules}
 use Rattle.entity_id.proofs.label_test.Goals as goal
 
 pub returns-in-Standard : goal.returns-in-Standard

@@ -6,7 +6,6 @@ use Rattle.refusal.specs.Told.{told_checked}
 use Rattle.refusal.proofs.Laws.{also_of, also_mapped}
 use Rattle.entity_id.specs.Rules.{id_of, entity_test, head_test}
 use Rattle.entity_id.proofs.Laws.{width_bounds, entity_test_passed, write_entity_refused, write_entity_small, write_entity_room}
-use borrow.Author.Rules.{rules}
 use Rattle.entity_id.proofs.room_test.Goals as goal
 use Rattle.entity_id.proofs.room_test.Goals.{In_default}
 

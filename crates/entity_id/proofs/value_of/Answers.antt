@@ -1,13 +1,6 @@
 -- `value_of` meets its contract: the first w of w bytes are all of them, and no other number of bytes is a width. Assumes nothing.
-use mathlib.Core.Path.{◌≡◌, ap, ◌∙◌}
-use Prim.Native.Nat.{ℕ}
 use native.Mathlib.Omega.{arith}
-use mathlib.Core.List.{List}
-use lib.ListN.{length, take}
-use lib.Seq.{take_all}
-use Rattle.number.specs.Rules.{of_be}
 use Rattle.entity_id.proofs.Laws.{width_some}
-use borrow.Author.Rules.{rules}
 use Rattle.entity_id.proofs.value_of.Goals as goal
 
 pub returns-else-width-eq4 : goal.returns-else-width-eq4

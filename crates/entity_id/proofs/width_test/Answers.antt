@@ -30,7 +30,9 @@ pub returns-in_default : goal.returns-in_default
 returns-in_default c = sym (width_test_other _ (width_none _ (omega arith) (omega arith) (λ e. omega arith) (λ e. omega arith)))
 
 pub returns-in_default-2 : goal.returns-in_default-2
-returns-in_default-2 c = sym (width_test_other _ (width_none _ (omega arith) (omega arith) (λ e. omega arith) (λ e. omega arith)))
+returns-in_default-2 c =
+    let none : (c.args.width ≡ 4) ⊎ (c.args.width ≡ 8) → ⊥ = assumption in
+    sym (width_test_other _ (width_none _ (omega arith) (omega arith) (λ e. none (inl e)) (λ e. none (inr e))))
 
 pub returns-in-1 : goal.returns-in-1
 returns-in-1 c = sym (large _ c.in-1.is)

@@ -5,10 +5,8 @@ use native.Mathlib.Omega.{arith}
 use lib.ListN.{length, set, length-set}
 use Rattle.bluebook.specs.Layouts.{entity_id}
 use Rattle.refusal.specs.Told.{told_checked}
-use Rattle.splice.proofs.Writing.{wrote_not}
 use Rattle.entity_id.specs.Rules.{entity_of}
-use Rattle.entity_id.proofs.Laws.{Writable, told_refused, told_writable, number_laid, wrote_entity}
-use borrow.Author.Rules.{rules}
+use Rattle.entity_id.proofs.Laws.{Writable, told_writable, number_laid, wrote_entity}
 use Rattle.entity_id.proofs.written.Goals as goal
 use Rattle.entity_id.proofs.written.Goals.{In_default}
 

@@ -3,7 +3,6 @@
 use native.Mathlib.Omega.{arith}
 use Rattle.splice.proofs.Writing.{wrote_not}
 use Rattle.entity_id.proofs.Laws.{width_none, write_entity_width}
-use borrow.Author.Rules.{rules}
 use Rattle.entity_id.proofs.written_by_width.Goals as goal
 
 pub returns-else-width-eq4 : goal.returns-else-width-eq4

@@ -1,10 +1,9 @@
 -- `number::digits` meets its contract. The loop's invariant: x, with the bytes that are left behind it, is the number of all of them, and x
 -- has at most i bytes, so that one more fits in 64 bits. Assumes nothing.
-use mathlib.Core.Path.{◌≡◌, refl, sym, ◌∙◌}
-use Prim.Native.Nat.{◌+◌, ◌-◌, ◌*◌, ◌^◌, ◌≤◌, ◌<◌}
+use mathlib.Core.Path.{sym, ◌∙◌}
+use Prim.Native.Nat.{◌+◌, ◌*◌, ◌^◌, ◌<◌}
 use native.Mathlib.Omega.{arith}
-use lib.ListN.{length, drop, get_or}
-use Rattle.number.specs.Rules.{be_from, of_be}
+use lib.ListN.{get_or}
 use Rattle.number.proofs.Laws.{be_from_next, be_from_done, next_fits}
 use Rattle.number.proofs.digits.Goals as goal
 

@@ -1,11 +1,9 @@
 -- `number::digits` meets its contract. The loop's invariant: x, with the bytes that are left behind it, is the number of all of them, and x
 -- has at most i bytes, so that one more fits in 64 bits. Assumes nothing.
-use mathlib.Core.Path.{◌≡◌, refl, sym, ◌∙◌}
-use Prim.Native.Nat.{◌+◌, ◌-◌, ◌*◌, ◌^◌, ◌≤◌, ◌<◌}
-use native.Mathlib.Omega.{arith}
-use lib.ListN.{length, drop, get_or}
+use mathlib.Core.Path.{◌≡◌}
+use Prim.Native.Nat.{◌-◌, ◌^◌, ◌≤◌, ◌<◌}
+use lib.ListN.{length, drop}
 use Rattle.number.specs.Rules.{be_from, of_be}
-use Rattle.number.proofs.Laws.{be_from_next, be_from_done, next_fits}
 use Rattle.number.proofs.digits.Given as goal
 
 abbrev pub invariant-loop-i : goal.invariant-loop-i

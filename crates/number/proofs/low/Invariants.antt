@@ -1,12 +1,10 @@
 -- `number::low` meets its contract. The loop's invariant: the low i bytes of x, and behind them what is written, are the number's bytes.
 -- Assumes nothing.
-use mathlib.Core.Path.{◌≡◌, refl, sym, ◌∙◌}
-use Prim.Native.Nat.{◌+◌, ◌-◌, ◌≤◌}
-use native.Mathlib.Omega.{arith}
+use mathlib.Core.Path.{◌≡◌}
+use Prim.Native.Nat.{◌≤◌}
 use mathlib.Core.List.{◌++◌}
-use lib.ListN.{length, drop, length-set}
+use lib.ListN.{length, drop}
 use Rattle.bluebook.specs.Layouts.{be_bytes}
-use Rattle.number.proofs.Laws.{be_bytes_next, be_bytes_all, be_bytes_none}
 use Rattle.number.proofs.low.Given as goal
 
 abbrev pub invariant-loop-i : goal.invariant-loop-i

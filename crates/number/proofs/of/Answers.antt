@@ -6,7 +6,6 @@ use lib.ListN.{length, replicate}
 use Rattle.splice.proofs.Writing.{wrote_laid}
 use Rattle.number.specs.Rules.{of_be}
 use Rattle.number.proofs.Laws.{of_be_behind}
-use borrow.Author.Rules.{rules}
 use Rattle.number.proofs.of.Goals as goal
 
 pub returns : goal.returns

@@ -3,7 +3,6 @@ use mathlib.Core.Path.{sym, ap, ◌∙◌}
 use native.Mathlib.Omega.{arith}
 use Rattle.refusal.specs.Answer.{gives}
 use Rattle.number.proofs.Laws.{read_be_in, read_be_over}
-use borrow.Author.Rules.{rules}
 use Rattle.number.proofs.read.Goals as goal
 
 pub returns-then-n-gt8 : goal.returns-then-n-gt8

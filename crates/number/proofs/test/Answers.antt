@@ -2,7 +2,6 @@
 use mathlib.Core.Path.{sym}
 use native.Mathlib.Omega.{arith}
 use Rattle.number.proofs.Laws.{number_test_wide, number_test_large, number_test_fits, number_test_eight}
-use borrow.Author.Rules.{rules}
 use Rattle.number.proofs.test.Goals as goal
 
 pub returns-then-width-gt8 : goal.returns-then-width-gt8

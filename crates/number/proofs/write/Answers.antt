@@ -7,9 +7,8 @@ use Rattle.bluebook.specs.Layouts.{be_bytes}
 use Rattle.refusal.specs.Answer.{gives}
 use Rattle.number.specs.Rules.{number_test}
 use Rattle.refusal.specs.Told.{told_checked}
-use Rattle.splice.proofs.Writing.{wrote_refused, wrote_passed}
+use Rattle.splice.proofs.Writing.{wrote_passed}
 use Rattle.number.proofs.Laws.{number_test_passed, last_bytes}
-use borrow.Author.Rules.{rules}
 use Rattle.number.proofs.write.Goals as goal
 use Rattle.number.proofs.write.Goals.{After-bytes8-b}
 

@@ -1,11 +1,9 @@
 -- `splice::alike` meets its contract. The loop's invariant: the flag is 0 as long as the first i bytes are the same. Assumes nothing.
-use mathlib.Core.Path.{◌≡◌, sym, ap, ◌∙◌}
-use Prim.Native.Nat.{ℕ, ◌-◌, ◌≤◌, ◌<◌}
+use mathlib.Core.Path.{sym, ap, ◌∙◌}
+use Prim.Native.Nat.{ℕ, ◌<◌}
 use native.Mathlib.Omega.{arith}
-use lib.ListN.{length, take}
-use lib.Seq.{take-length}
+use lib.ListN.{length}
 use lib.Dec.{eqb}
-use Rattle.splice.specs.Laid.{same_bytes}
 use Rattle.splice.proofs.Laws.{same_none, same_on, same_off}
 use Rattle.splice.proofs.alike.Goals as goal
 use Rattle.splice.proofs.alike.Goals.{then-a-i, else-a-i}

@@ -4,11 +4,9 @@ use mathlib.Core.Path.{sym, ◌∙◌}
 use Prim.Native.Nat.{◌-◌}
 use native.Mathlib.Omega.{arith}
 use lib.ListN.{length}
-use lib.Seq.{length-take-le}
 use borrow.Author.Rules.{part_to_end}
 use Rattle.splice.specs.Laid.{same_bytes}
 use Rattle.splice.proofs.Laws.{same_first, same_last}
-use borrow.Author.Rules.{rules}
 use Rattle.splice.proofs.alike_ends.Goals as goal
 
 pub returns-then-alike : goal.returns-then-alike

@@ -1,11 +1,10 @@
 -- `splice::ends` meets its contract, by `laid_ends`. Assumes nothing.
-use mathlib.Core.Path.{◌≡◌, sym, ap, ◌∙◌}
+use mathlib.Core.Path.{◌≡◌, ap, ◌∙◌}
 use Prim.Native.Nat.{ℕ, ◌+◌, ◌-◌}
 use native.Mathlib.Omega.{arith}
 use mathlib.Core.List.{List}
 use lib.ListN.{length, take, drop, length-drop}
-use lib.Seq.{length-take-le, take_all}
-use borrow.Author.Rules.{rules}
+use lib.Seq.{take_all}
 use Rattle.splice.specs.Laid.{laid}
 use Rattle.splice.proofs.Laws.{laid_ends}
 use Rattle.splice.proofs.ends.Goals as goal

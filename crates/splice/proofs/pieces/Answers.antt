@@ -1,7 +1,7 @@
 -- `splice::pieces` meets its contract. The loop's invariant: dst is what it was with src's first i bytes over it from at on. A piece more is laid
 -- behind them (`laid_behind`), and the last one by `laid_ends`, since it starts at i or before. Assumes nothing.
 use mathlib.Core.Path.{◌≡◌, refl, sym, ap, ◌∙◌}
-use Prim.Native.Nat.{ℕ, ◌+◌, ◌-◌, ◌≤◌}
+use Prim.Native.Nat.{ℕ, ◌+◌, ◌-◌}
 use native.Mathlib.Omega.{arith}
 use mathlib.Core.List.{List}
 use lib.ListN.{length, take, drop, length-drop}

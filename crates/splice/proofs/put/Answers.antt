@@ -2,7 +2,6 @@
 use mathlib.Core.Path.{refl, sym, ◌∙◌}
 use native.Mathlib.Omega.{arith}
 use Rattle.splice.proofs.Writing.{room_for_in, room_for_out, room_at_past, room_at_there, wrote, wrote_not}
-use borrow.Author.Rules.{rules}
 use Rattle.splice.proofs.put.Goals as goal
 
 pub returns-then-dst-at : goal.returns-then-dst-at

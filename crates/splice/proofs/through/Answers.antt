@@ -1,13 +1,12 @@
 -- `splice::through` meets its contract. The first loop: the buffer's first i bytes are src's. The second: dst is what it was with the
 -- buffer's first j bytes over it from at on (`lib.Seq`'s `paste`). Assumes nothing.
-use mathlib.Core.Path.{◌≡◌, refl, sym, ap, ◌∙◌}
-use Prim.Native.Nat.{ℕ, ◌+◌, ◌-◌, ◌≤◌, ◌<◌}
+use mathlib.Core.Path.{◌≡◌, sym, ap, ◌∙◌}
+use Prim.Native.Nat.{ℕ, ◌+◌, ◌<◌}
 use native.Mathlib.Omega.{arith}
 use native.Mathlib.Numerals.{add-one}
-use mathlib.Core.List.{List, [], ◌∷◌, ◌++◌}
-use lib.ListN.{length, take, drop, get_or, set, length-set, length-replicate}
-use lib.Seq.{paste, paste-zero, paste-suc, take-length, take-suc, take-suc-set}
-use borrow.Author.Rules.{rules}
+use mathlib.Core.List.{List, ◌++◌}
+use lib.ListN.{length, take, drop, get_or, set, length-set}
+use lib.Seq.{paste, paste-suc, take-length}
 use Rattle.splice.proofs.Laws.{laid_is}
 use Rattle.splice.proofs.through.Goals as goal
 

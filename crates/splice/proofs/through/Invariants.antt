@@ -1,14 +1,9 @@
 -- `splice::through` meets its contract. The first loop: the buffer's first i bytes are src's. The second: dst is what it was with the
 -- buffer's first j bytes over it from at on (`lib.Seq`'s `paste`). Assumes nothing.
-use mathlib.Core.Path.{◌≡◌, refl, sym, ap, ◌∙◌}
-use Prim.Native.Nat.{ℕ, ◌+◌, ◌-◌, ◌≤◌, ◌<◌}
-use native.Mathlib.Omega.{arith}
-use native.Mathlib.Numerals.{add-one}
-use mathlib.Core.List.{List, [], ◌∷◌, ◌++◌}
-use lib.ListN.{length, take, drop, get_or, set, length-set, length-replicate}
-use lib.Seq.{paste, paste-zero, paste-suc, take-length, take-suc, take-suc-set}
-use borrow.Author.Rules.{rules}
-use Rattle.splice.proofs.Laws.{laid_is}
+use mathlib.Core.Path.{◌≡◌}
+use Prim.Native.Nat.{◌-◌, ◌≤◌}
+use lib.ListN.{length, take}
+use lib.Seq.{paste}
 use Rattle.splice.proofs.through.Given as goal
 
 abbrev pub invariant-loop-i : goal.invariant-loop-i
@@ -18,7 +13,7 @@ abbrev pub decreases-loop-i : goal.decreases-loop-i
 decreases-loop-i l = length l.src - l.i
 
 abbrev pub invariant-loop-j : goal.invariant-loop-j
-invariant-loop-j l = 
+invariant-loop-j l =
     (l.j ≤ length l.src) × (length l.dst ≡ length l.initial.dst) × (l.dst ≡ paste l.initial.dst l.at l.b l.j)
 
 abbrev pub decreases-loop-j : goal.decreases-loop-j

@@ -3,7 +3,7 @@ use mathlib.Core.Path.{sym, ap, ◌∙◌}
 use native.Mathlib.Omega.{arith}
 use Rattle.action.specs.Rules.{action_of}
 use Rattle.action.specs.declared.FilestoreActionCode.TheVariants.{CreateFile, DeleteFile, RenameFile, AppendFile, ReplaceFile, CreateDirectory, RemoveDirectory, DenyFile, DenyDirectory}
-use Rattle.action.proofs.Laws.{action_back, action_of_none, more}
+use Rattle.action.proofs.Laws.{action_back, action_of_none}
 use Rattle.action.proofs.FilestoreActionCode.from_code.Goals as goal
 
 pub returns-in-0 : goal.returns-in-0

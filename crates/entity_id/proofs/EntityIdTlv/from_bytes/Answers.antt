@@ -8,7 +8,6 @@ use Rattle.refusal.specs.Answer.{gives}
 use Rattle.refusal.specs.Told.{told_checked}
 use Rattle.entity_id.specs.Rules.{head_test, type_test, width_test}
 use Rattle.entity_id.proofs.Laws.{width_test_passed, head_test_passed, numbered_by, read_entity_head, read_entity_type, read_entity_width, read_entity_short, read_entity_whole}
-use borrow.Author.Rules.{rules}
 use Rattle.entity_id.proofs.EntityIdTlv.from_bytes.Goals as goal
 use Rattle.entity_id.proofs.EntityIdTlv.from_bytes.Goals.{In_default, In_default-allowed, In_default-test}
 

@@ -6,7 +6,6 @@ use Rattle.refusal.proofs.Laws.{also_of}
 use Rattle.lv.specs.Rules.{part_of}
 use Rattle.entity_id.specs.Rules.{width_ok}
 use Rattle.entity_id.proofs.Laws.{tlv_test, held, numbered_by, of_tlv_refused, of_tlv_passed}
-use borrow.Author.Rules.{rules}
 use Rattle.entity_id.proofs.EntityIdTlv.from_tlv.Goals as goal
 use Rattle.entity_id.proofs.EntityIdTlv.from_tlv.Goals.{After-then-test}
 

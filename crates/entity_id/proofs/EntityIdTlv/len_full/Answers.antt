@@ -5,7 +5,6 @@ use Rattle.refusal.specs.Answer.{gives}
 use Rattle.refusal.specs.Told.{told_checked}
 use Rattle.entity_id.specs.Rules.{meaning, entity_test}
 use Rattle.entity_id.proofs.Laws.{width_bounds, entity_test_passed, len_entity_refused, len_entity_passed}
-use borrow.Author.Rules.{rules}
 use Rattle.entity_id.proofs.EntityIdTlv.len_full.Goals as goal
 use Rattle.entity_id.proofs.EntityIdTlv.len_full.Goals.{In_default}
 

@@ -2,7 +2,6 @@
 use mathlib.Core.Path.{sym, ap, ◌∙◌}
 use Rattle.refusal.specs.Told.{told_checked}
 use Rattle.entity_id.proofs.Laws.{new_entity_refused, new_entity_passed}
-use borrow.Author.Rules.{rules}
 use Rattle.entity_id.proofs.EntityIdTlv.new.Goals as goal
 
 pub returns-in-Fine : goal.returns-in-Fine

@@ -7,7 +7,6 @@ use Rattle.refusal.specs.Told.{told_checked}
 use Rattle.lv.proofs.Laws.{new_lv_in}
 use Rattle.entity_id.specs.Rules.{meaning}
 use Rattle.entity_id.proofs.Laws.{Writable, told_refused, told_writable, number_laid, made_refused, made_tlv}
-use borrow.Author.Rules.{rules}
 use Rattle.entity_id.proofs.EntityIdTlv.to_tlv.Goals as goal
 use Rattle.entity_id.proofs.EntityIdTlv.to_tlv.Goals.{In_default}
 

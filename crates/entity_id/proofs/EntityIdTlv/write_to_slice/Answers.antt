@@ -1,7 +1,6 @@
 -- `EntityIdTlv::write_to_slice` meets its contract: what it calls tells its refusal, or that all is written. Assumes nothing.
 use native.Mathlib.Omega.{arith}
 use Rattle.entity_id.proofs.Laws.{wrote_writable}
-use borrow.Author.Rules.{rules}
 use Rattle.entity_id.proofs.EntityIdTlv.write_to_slice.Goals as goal
 
 pub overflow_add-result : goal.overflow_add-result

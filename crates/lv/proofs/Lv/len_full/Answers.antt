@@ -2,7 +2,6 @@
 use mathlib.Core.Path.{sym}
 use native.Mathlib.Omega.{arith}
 use Rattle.lv.proofs.Laws.{len_full_in, len_full_over}
-use borrow.Author.Rules.{rules}
 use Rattle.lv.proofs.Lv.len_full.Goals as goal
 
 pub returns-then-len-gt255 : goal.returns-then-len-gt255

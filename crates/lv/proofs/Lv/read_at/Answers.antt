@@ -2,7 +2,6 @@
 use mathlib.Core.Path.{sym, ◌∙◌}
 use native.Mathlib.Omega.{arith}
 use Rattle.lv.proofs.Laws.{read_lv_at_end, read_lv_at_at, read_lv_at_none, read_lv_at_short, read_lv_at_whole}
-use borrow.Author.Rules.{rules}
 use Rattle.lv.proofs.Lv.read_at.Goals as goal
 
 pub returns-then-buf-end : goal.returns-then-buf-end

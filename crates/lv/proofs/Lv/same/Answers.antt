@@ -6,7 +6,6 @@ use Rattle.refusal.proofs.Laws.{also_of}
 use Rattle.splice.specs.Laid.{same_bytes}
 use Rattle.lv.specs.Rules.{span_test, same_lv}
 use Rattle.lv.proofs.Laws.{same_lv_refused, same_lv_passed}
-use borrow.Author.Rules.{rules}
 use Rattle.lv.proofs.Lv.same.Goals as goal
 use Rattle.lv.proofs.Lv.same.Goals.{After-same, After-then-test}
 

@@ -2,7 +2,6 @@
 use mathlib.Core.Path.{sym}
 use native.Mathlib.Omega.{arith}
 use Rattle.lv.proofs.Laws.{span_test_in, span_test_out}
-use borrow.Author.Rules.{rules}
 use Rattle.lv.proofs.Lv.span_test.Goals as goal
 
 pub returns-then-buf-start : goal.returns-then-buf-start

@@ -3,7 +3,6 @@ use mathlib.Core.Path.{sym}
 use native.Mathlib.Omega.{arith}
 use native.Mathlib.Nat.{add-sub_cancel_left}
 use Rattle.lv.proofs.Laws.{part_of_in, part_of_out}
-use borrow.Author.Rules.{rules}
 use Rattle.lv.proofs.Lv.value.Goals as goal
 
 pub returns-then-buf-start : goal.returns-then-buf-start

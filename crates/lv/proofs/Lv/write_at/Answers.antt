@@ -10,7 +10,6 @@ use Rattle.refusal.specs.Told.{told_checked}
 use Rattle.refusal.proofs.Laws.{also_passed}
 use Rattle.lv.specs.Rules.{size_test, span_test, write_test}
 use Rattle.lv.proofs.Laws.{write_test_is, sound, write_lv_at_size, write_lv_at_past, write_lv_at_span, write_lv_at_small, write_lv_at_room}
-use borrow.Author.Rules.{rules}
 use Rattle.lv.proofs.Lv.write_at.Goals as goal
 use Rattle.lv.proofs.Lv.write_at.Goals.{In_default, In_default-span}
 

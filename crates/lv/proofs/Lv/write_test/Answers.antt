@@ -2,7 +2,6 @@
 use mathlib.Core.Path.{sym, ◌∙◌}
 use Rattle.refusal.proofs.Laws.{also_of}
 use Rattle.lv.proofs.Laws.{write_test_is}
-use borrow.Author.Rules.{rules}
 use Rattle.lv.proofs.Lv.write_test.Goals as goal
 
 pub returns : goal.returns
