@@ -14,9 +14,8 @@ use Rattle.filestore_reader.proofs.lv_if.Goals.{After-read_at}
 -- what the LV's reader told, by the arm that it led to
 told : (c : After-read_at) (x : LvRead) → c.read_at.result ≡ x → (let a = c.args in map_answer There (told_lv x) ≡ read_if_at a.buf.now a.at a.end a.wanted)
 told c x e =
-    let s = c in
     ap (map_answer There) (sym (ap told_lv e) ∙ c.read_at.ensures)
-    ∙ sym (ap (read_if_at s.args.buf.now s.args.at s.args.end) (c.if-not-wanted.false) ∙ read_if_at_lv _ _ _ s.requires.0 s.requires.1)
+    ∙ sym (ap (read_if_at c.args.buf.now c.args.at c.args.end) c.if-not-wanted.false ∙ read_if_at_lv _ _ _ c.requires.0 c.requires.1)
 
 pub returns-then-not-wanted : goal.returns-then-not-wanted
 returns-then-not-wanted c =
@@ -25,9 +24,8 @@ returns-then-not-wanted c =
 
 pub returns-then-end-at : goal.returns-then-end-at
 returns-then-end-at c =
-    let s = c in
     ap (λ (r : Refusal). refused r) c.no_byte.ensures
-    ∙ sym (ap (read_if_at s.args.buf.now s.args.at s.args.end) (c.if-not-wanted.false) ∙ read_if_at_none _ _ _ s.requires.0 s.requires.1 c.if-end-at.true)
+    ∙ sym (ap (read_if_at c.args.buf.now c.args.at c.args.end) c.if-not-wanted.false ∙ read_if_at_none _ _ _ c.requires.0 c.requires.1 c.if-end-at.true)
 
 pub returns-in-Read : goal.returns-in-Read
 returns-in-Read c = told (goal.at.returns-in-Read c).After-read_at _ c.in-Read.is

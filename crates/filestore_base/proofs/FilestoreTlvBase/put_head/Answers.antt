@@ -17,5 +17,4 @@ overflow_cast-buf c = omega (arith, c.len.ensures, (built _ c.requires.0).1)
 
 pub overflow_add-buf : goal.overflow_add-buf
 overflow_add-buf c =
-    let s = c in
-    omega (arith, c.to_code.ensures, code_known s.args.self.action_code, (whole (goal.at.overflow_add-buf c).Start).low)
+    omega (arith, c.to_code.ensures, code_known c.args.self.action_code, (whole (goal.at.overflow_add-buf c).Start).low)

@@ -39,5 +39,4 @@ put_head-requires c = ((ready (goal.at.put_head-requires c).In_default).built, r
 
 pub returns : goal.returns
 returns c =
-    let else = c in
-    write_base_room _ _ _ (passed (goal.at.returns c).In_default) _ _ _ (room (goal.at.returns c).Else-found-expected) else.len-expected.ensures c.put_head.ensures c.put_parts.ensures
+    write_base_room _ _ _ (passed (goal.at.returns c).In_default) _ _ _ (room (goal.at.returns c).Else-found-expected) c.len-expected.ensures c.put_head.ensures c.put_parts.ensures
