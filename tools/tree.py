@@ -21,10 +21,10 @@ def exists(path):
 
 
 def files_below(folder, suffix=""):
-    """The files below a folder, by their paths from the root, without .git and target."""
+    """The files below a folder, by their paths from the root, without .git, target, and what rt makes in a crate's out."""
     found = []
     for top, folders, names in os.walk(os.path.join(ROOT, folder)):
-        folders[:] = [f for f in folders if f not in (".git", "target")]
+        folders[:] = [f for f in folders if f not in (".git", "target", "out")]
         found += [os.path.relpath(os.path.join(top, n), ROOT) for n in names if n.endswith(suffix)]
     return sorted(found)
 
