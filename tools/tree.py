@@ -105,7 +105,7 @@ class Crate:
         return name[len(self.name) + 2:] if name.startswith(self.name + "::") else name
 
     def has(self, name, folder="", file=""):
-        """Whether a file of the crate declares the name: any, or those of a folder, or those of a name. `one-..` asks for any name that begins so."""
+        """Whether a file of the crate declares the name: any, or those of a folder, or those of a name. `one_..` asks for any name that begins so."""
         sets = [names for p, names in self.declared.items() if p.startswith(self.folder + "/" + folder) and ("/" + p).endswith("/" + file if file else "")]
         if name.endswith(".."):
             return any(n.startswith(name[:-2]) for names in sets for n in names)
