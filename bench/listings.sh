@@ -39,13 +39,12 @@ least() { # JOURNAL COMMAND..
     $X86_RUN "$programs/release.0" listing 50 "$@" || stop "a program that is timed does not list the journal ${1##*/}"
 }
 
-# Lists by a program, which is ours or one in C: it is run or counted, over standard input, or timed. Ours is loaded by the kit's loader, as in
-# tools/run-proved.
+# Lists by a program, which is ours or one in C: it is run or counted, over standard input, or timed.
 list() { # PROGRAM run|count|least JOURNAL
     lister=$1
     shift
     case $lister in
-        ours) "$@" "$tools/lib/ld-linux-x86-64.so.2" --library-path "$tools/lib" "$dump" ;;
+        ours) "$@" "$dump" ;;
         *) "$@" "$programs/$lister" ;;
     esac
 }

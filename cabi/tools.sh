@@ -16,9 +16,9 @@
 #   X86_COUNT    the same, and the counter bench/insns.c, which says how it is built: qemu-x86_64 -plugin FOLDER/insns.so
 #   X86_OBJDUMP  binutils-x86-64-linux-gnu: x86_64-linux-gnu-objdump
 #
-# libcabi.a and the program dump are proved and built first, where those in target/ were not built from these very sources. To try others:
-#   CABI_LIB      an archive libcabi.a to use in the place of the one that `rt staticlib cabi` proves and writes
-#   DUMP_PROGRAM  a program dump to use in the place of target/bin/dump. With CABI_LIB alone nothing is proved, and the listings are left out
+# libcabi.a and the program dump are proved and built first, where those in out/ of their crates were not built from these very sources. To try others:
+#   CABI_LIB      an archive libcabi.a to use in the place of the one that `rt lib` in crates/cabi proves and writes
+#   DUMP_PROGRAM  a program dump to use in the place of crates/dump/out/dump. With CABI_LIB alone nothing is proved, and the listings are left out
 # Status 77 where one of these commands is missing, and something is left out for it; 2 where something else is in the way.
 
 . "$top/tools/sources.sh"
@@ -58,7 +58,7 @@ prove_archive() {
     wait_turn "$me"
     ! noted "$lib/libcabi.a" "$note" || return 0
     from=$(sources)
-    (cd "$top" && rt staticlib cabi) >&2 || stop "libcabi.a is not proved"
+    (cd "$top/crates/cabi" && rt lib) >&2 || stop "libcabi.a is not proved"
     write_note "$lib/libcabi.a" "$note" "$from"
 }
 
@@ -71,21 +71,20 @@ archive() {
         return
     fi
     find_kit
-    lib=$top/target/staticlib
+    lib=$top/crates/cabi/out
     note=$top/target/run-proved/libcabi.a
     mkdir -p "$top/target/run-proved"
     (prove_archive) 9<"$top" || exit 2
 }
 
-# Sets dump, the program that lists, and finds the kit, which it is run by. ./dump proves it where it was not built from these very sources; but where
-# CABI_LIB is given alone nothing is to be proved, and dump is empty.
+# Sets dump, the program that lists. ./dump proves it where it was not built from these very sources; but where CABI_LIB is given alone nothing is to
+# be proved, and dump is empty.
 dump_program() {
     dump=${DUMP_PROGRAM-}
     [ -n "$dump" ] || [ -z "${CABI_LIB-}" ] || return 0
-    find_kit
     if [ -z "$dump" ]; then
         "$top/dump" </dev/null >/dev/null || stop "the program dump is not proved"
-        dump=$top/target/bin/dump
+        dump=$top/crates/dump/out/dump
     fi
     [ -r "$dump" ] || stop "no such file: $dump"
 }

@@ -8,7 +8,7 @@ FOLDER_OF = {"Says": "specs", "Theorems": "proofs", "One answer": "proofs"}
 
 # Names of things outside this repository. Those that are written "the Rust's `x`" or "C's `x`" need no entry.
 OUTSIDE = {
-    "words of Rattle, its logic and its library": "requires ensures match let if else now length take usize usize::MAX &[u8] &mut",
+    "words of Rattle, its logic and its library": "requires ensures result buf.now buf.old buf.new match let if else now length take usize usize::MAX &[u8] &mut",
     "the kit's command, and what it prints": "rt axioms=",
     "words of a listing, and of the samples": "request response entity other refused whole cut too no plain p",
     "commands of the system": "cat cc echo head python3",
@@ -149,8 +149,8 @@ def words_of(text):
 
     Nothing of bytes, numbers, type fields and lines of a listing: they begin with a digit, or as `x05` and `s6` do, or have no letter. Nothing of a path that leads out of the repository, or to
     what is built. A single word is a file, a path (or an edit) or a name. `request.new 0 4` is a case of the tests. All else is an expression or a
-    command: its first word, a word behind a bracket, and every word with small and capital letters or with :: are names, a word with / is a path."""
-    if not re.search(r"[A-Za-z]", text) or re.match(r"\d|/|\.\./|target/|x[0-9a-f]{2}|[sc]\d", text):
+    command: its first word, a word behind a bracket, and every word with small and capital letters, with an underscore or with :: are names, a word with / is a path."""
+    if not re.search(r"[A-Za-z]", text) or re.match(r"\d|/|\.\./|target/|(crates/\w+/)?out/|x[0-9a-f]{2}|[sc]\d", text):
         return []
     if text in OUTSIDE_NAMES and not NAME.fullmatch(text):
         return []
@@ -166,5 +166,5 @@ def words_of(text):
     for path in paths:
         text = text.replace(path, " ")
     names = re.findall(r"(?:^|\()\s*(%s)" % NAME.pattern, text)
-    names += [w for w in NAME.findall(text) if "::" in w or re.search(r"[a-z][A-Z]|[A-Z][a-z]", w)]
+    names += [w for w in NAME.findall(text) if "::" in w or re.search(r"[a-z][A-Z]|[A-Z][a-z]|[a-z]_", w)]
     return [found for p in paths for found in words_of(p)] + [("name", w) for w in names if len(w) > 1]

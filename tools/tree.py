@@ -21,10 +21,10 @@ def exists(path):
 
 
 def files_below(folder, suffix=""):
-    """The files below a folder, by their paths from the root, without .git and target."""
+    """The files below a folder, by their paths from the root, without .git, target, and what rt makes in a crate's out."""
     found = []
     for top, folders, names in os.walk(os.path.join(ROOT, folder)):
-        folders[:] = [f for f in folders if f not in (".git", "target")]
+        folders[:] = [f for f in folders if f not in (".git", "target", "out")]
         found += [os.path.relpath(os.path.join(top, n), ROOT) for n in names if n.endswith(suffix)]
     return sorted(found)
 
@@ -105,7 +105,7 @@ class Crate:
         return name[len(self.name) + 2:] if name.startswith(self.name + "::") else name
 
     def has(self, name, folder="", file=""):
-        """Whether a file of the crate declares the name: any, or those of a folder, or those of a name. `one-..` asks for any name that begins so."""
+        """Whether a file of the crate declares the name: any, or those of a folder, or those of a name. `one_..` asks for any name that begins so."""
         sets = [names for p, names in self.declared.items() if p.startswith(self.folder + "/" + folder) and ("/" + p).endswith("/" + file if file else "")]
         if name.endswith(".."):
             return any(n.startswith(name[:-2]) for names in sets for n in names)

@@ -1,4 +1,4 @@
--- The laws of `specs/Boundary.antt` that the functions cite, and one of the walk's steps. Assumes nothing.
+-- The laws of `specs/Boundary.antt`: how an answer crosses, and what a writer tells; and one of the walk's steps. Assumes nothing.
 use mathlib.Core.Path.{◌≡◌, refl, sym, ap, ◌∙◌}
 use Prim.Native.Nat.{ℕ}
 use mathlib.Core.List.{List}

@@ -4,25 +4,29 @@
 
 ghost use Rattle.std.specs.Prelude.{◌≡◌, length};
 
+use dump_io::{Failure, Input};
 use filestore_base::SecondName;
 use filestore_request::FilestoreRequestTlv;
 use filestore_response::FilestoreResponseTlv;
 use lv::Lv;
 use refusal::Written;
 use repair::FirstRequest;
+use std::io;
+use std::io::{Stdout, Write};
 
-fn line(text: &[u8]) {
-    io::write_all(libc::STDOUT_FILENO, text);
-    io::write_all(libc::STDOUT_FILENO, b"\n");
+fn line(out: &mut Stdout, text: &[u8]) -> io::Result<()> {
+    out.write_all(text)?;
+    out.write_all(b"\n")
 }
 
 // The names of a request, a line each.
-fn print_names(request: FilestoreRequestTlv, bytes: &[u8]) {
-    line(request.first_name().value(bytes));
+fn print_names(out: &mut Stdout, request: FilestoreRequestTlv, bytes: &[u8]) -> io::Result<()> {
+    line(out, request.first_name().value(bytes))?;
     let second_name = request.second_name();
     if let SecondName::There(name) = second_name {
-        line(name.value(bytes));
+        line(out, name.value(bytes))?;
     }
+    Ok(())
 }
 
 // The response to a request that was carried out: its action and its names, status 0, and no message.
@@ -37,23 +41,29 @@ fn done(request: FilestoreRequestTlv) -> FilestoreResponseTlv {
 }
 
 // Appends the response to a request to the journal, which is the first `used` bytes of the buffer, and lists what that makes. The names lie in src.
-fn respond(journal: &mut [u8], used: usize, request: FilestoreRequestTlv, src: &[u8]) {
+fn respond(
+    out: &mut Stdout,
+    journal: &mut [u8],
+    used: usize,
+    request: FilestoreRequestTlv,
+    src: &[u8],
+) -> io::Result<()> {
     match repair::append_response(journal, used, done(request), src) {
-        Written::Bytes(n) => dump_io::list(&journal[..n]),
-        Written::Refused(_) => line(b"refused"),
+        Written::Bytes(n) => dump_io::list(&journal[..n], out),
+        Written::Refused(_) => line(out, b"refused"),
     }
 }
 
 // The request is read from a copy of the journal, so that its names can be lent while the journal is written to.
-fn run(copy: &[u8], journal: &mut [u8]) {
+fn run(out: &mut Stdout, copy: &[u8], journal: &mut [u8]) -> io::Result<()> {
     match repair::first_request(copy) {
         FirstRequest::Found { place, request } => {
             let bytes = &copy[place..];
-            print_names(request, bytes);
-            respond(journal, copy.len(), request, bytes);
+            print_names(out, request, bytes)?;
+            respond(out, journal, copy.len(), request, bytes)
         }
-        FirstRequest::NoRequest => line(b"no request"),
-        FirstRequest::Refused(_) => line(b"too long"),
+        FirstRequest::NoRequest => line(out, b"no request"),
+        FirstRequest::Refused(_) => line(out, b"too long"),
     }
 }
 
@@ -64,9 +74,13 @@ fn room() -> [u8; 65536]
     [0; 65536]
 }
 
-fn main() {
+fn main(rt: HostRuntime) -> Result<(), Failure> {
     let mut journal = room();
-    let used = io::read_full(libc::STDIN_FILENO, &mut journal);
-    let copy = journal;
-    run(&copy[..used], &mut journal);
+    match dump_io::read_input(&mut rt.stdin(), &mut journal) {
+        Input::Bytes(used) => {
+            let copy = journal;
+            run(&mut rt.stdout(), &copy[..used], &mut journal).map_err(Failure::Output)
+        }
+        Input::Failed(e) => Err(Failure::Input(e)),
+    }
 }

@@ -34,6 +34,8 @@ mod wrong;
 
 ghost use Rattle.std.specs.Prelude.{◌≡◌, length};
 
+use dump_io::{Failure, Input};
+use std::io::Stdout;
 use test_output::{codes, recut};
 use test_text::{checksum, part};
 
@@ -45,33 +47,44 @@ fn ends_room() -> [usize; 32768]
 }
 
 // Writes the journal that is listed, tries every cut of it, and then the lists that are wrong on purpose.
-fn run(a: &[u8], ends: &[usize], n: usize) {
+fn run(out: &mut Stdout, a: &[u8], ends: &[usize], n: usize) -> std::io::Result<()> {
     let mut b = io::large_buffer();
     if !cuts::written(a, ends, &mut b) {
-        return recut::not_written();
+        recut::not_written();
+        return Ok(());
     }
     let sum = checksum(0, part(&b, 0, n));
     recut::journal(ends.len(), n, sum as usize);
     let t = cuts::all(a, ends, n, &mut b);
     say::tried(t);
     if t.what != codes::NOTHING {
-        dump_io::list(part(&b, 0, t.walked));
+        dump_io::list(part(&b, 0, t.walked), out)?;
     }
     wrong::all(a, ends);
+    Ok(())
 }
 
-fn main() {
-    let mut text = io::large_buffer();
-    let size = io::read_full(libc::STDIN_FILENO, &mut text);
+// Reads the list that is the text, and runs what it asks for.
+fn read(out: &mut Stdout, text: &[u8]) -> std::io::Result<()> {
     let mut a = io::large_buffer();
     let mut ends = ends_room();
-    let list = list::read(part(&text, 0, size), &mut a, &mut ends);
+    let list = list::read(text, &mut a, &mut ends);
     let count = list.count;
-    if list.bad || 65535 < size {
-        return recut::bad_list(list.at);
+    if list.bad || 65535 < text.len() {
+        recut::bad_list(list.at);
+        return Ok(());
     }
     if 32768 < count {
-        return recut::bad_list(list.at);
+        recut::bad_list(list.at);
+        return Ok(());
     }
-    run(&a, &ends[0..count], list.place);
+    run(out, &a, &ends[0..count], list.place)
+}
+
+fn main(rt: HostRuntime) -> Result<(), Failure> {
+    let mut text = io::large_buffer();
+    match dump_io::read_input(&mut rt.stdin(), &mut text) {
+        Input::Bytes(size) => read(&mut rt.stdout(), part(&text, 0, size)).map_err(Failure::Output),
+        Input::Failed(e) => Err(Failure::Input(e)),
+    }
 }

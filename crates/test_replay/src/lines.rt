@@ -1,6 +1,7 @@
 // Answers the input, line by line, and a line call by call.
 use crate::walker_rows::State;
 use crate::{call, walker_rows};
+use std::io::{Result, Stdout};
 use test_output::text;
 use test_text::{Read, bytes, copied, find, line, next_line, part};
 
@@ -19,16 +20,24 @@ fn read(word: &[u8], room: &mut [u8]) -> usize {
 }
 
 // Answers a call, and gives the state after. A space before it is passed over.
-fn answer(state: State, call: &[u8], a: &mut [u8], b: &mut [u8], held: &mut [u8]) -> State {
+fn answer(
+    out: &mut Stdout,
+    state: State,
+    call: &[u8],
+    a: &mut [u8],
+    b: &mut [u8],
+    held: &mut [u8],
+) -> Result<State> {
     let mut key = [0u8; 64];
     let c = call::read(call, &mut key);
     let n = read(part(call, c.first, c.first_end), a);
     let m = read(part(call, c.last, c.last_end), b);
     if n == NO_BYTES || m == NO_BYTES {
         test_output::bad();
-        return state;
+        return Ok(state);
     }
     walker_rows::say(
+        out,
         state,
         part(&key, 0, c.n),
         c.left,
@@ -57,16 +66,22 @@ fn said(call: &[u8]) {
 }
 
 // Writes a case back, each of its calls with the answer behind it. The state goes from call to call.
-fn answered(line: &[u8], a: &mut [u8], b: &mut [u8], held: &mut [u8]) {
+fn answered(
+    out: &mut Stdout,
+    line: &[u8],
+    a: &mut [u8],
+    b: &mut [u8],
+    held: &mut [u8],
+) -> Result<()> {
     let mut state = walker_rows::new();
     let mut at: usize = 0;
     loop {
         let end = find(line, b';', at);
         let call = part(line, at, end);
         said(call);
-        state = answer(state, trimmed(call), a, b, held);
+        state = answer(out, state, trimmed(call), a, b, held)?;
         if line.len() <= end {
-            return;
+            return Ok(());
         }
         text(b";");
         at = end + 1;
@@ -74,19 +89,33 @@ fn answered(line: &[u8], a: &mut [u8], b: &mut [u8], held: &mut [u8]) {
 }
 
 // Writes a line back, with its answers where it is a case.
-fn replayed(line: &[u8], a: &mut [u8], b: &mut [u8], held: &mut [u8]) {
+fn replayed(
+    out: &mut Stdout,
+    line: &[u8],
+    a: &mut [u8],
+    b: &mut [u8],
+    held: &mut [u8],
+) -> Result<()> {
     if copied(line) {
-        return text(line);
+        text(line);
+        return Ok(());
     }
-    answered(line, a, b, held);
+    answered(out, line, a, b, held)
 }
 
 // Each line in its turn. A last line that no line end follows counts as a line.
-pub(crate) fn run(input: &[u8], a: &mut [u8], b: &mut [u8], held: &mut [u8]) {
+pub(crate) fn run(
+    out: &mut Stdout,
+    input: &[u8],
+    a: &mut [u8],
+    b: &mut [u8],
+    held: &mut [u8],
+) -> Result<()> {
     let mut at: usize = 0;
     while at < input.len() {
-        replayed(line(input, at), a, b, held);
+        replayed(out, line(input, at), a, b, held)?;
         test_output::line_end();
         at = next_line(input, at);
     }
+    Ok(())
 }

@@ -12,7 +12,12 @@ mod word;
 
 ghost use Rattle.std.specs.Prelude.{◌≡◌, length};
 
+use dump_io::{Failure, Input};
+use std::io::Stdout;
 use test_text::{part, room};
+
+// The file descriptor of standard error.
+const STDERR: i32 = 2;
 
 // Room for the input, all of it. The clause is what lending the array as a slice needs.
 fn input_room() -> [u8; 524288]
@@ -22,15 +27,22 @@ fn input_room() -> [u8; 524288]
 }
 
 // Writes each line of standard input back, a case with its answers. An input that fills the room may be longer, and none of it is answered.
-fn main() {
-    let mut input = input_room();
+fn run(out: &mut Stdout, input: &[u8]) -> std::io::Result<()> {
+    if input.len() == 524288 {
+        io::write_all(STDERR, b"the input is too long\n");
+        return Ok(());
+    }
     let mut a = room();
     let mut b = room();
     let mut held = room();
-    let n = io::read_full(libc::STDIN_FILENO, &mut input);
-    if n == 524288 {
-        io::write_all(libc::STDERR_FILENO, b"the input is too long\n");
-        return;
+    lines::run(out, input, &mut a, &mut b, &mut held)
+}
+
+// Of an input that cannot be read to its end nothing is answered.
+fn main(rt: HostRuntime) -> Result<(), Failure> {
+    let mut input = input_room();
+    match dump_io::read_input(&mut rt.stdin(), &mut input) {
+        Input::Bytes(n) => run(&mut rt.stdout(), part(&input, 0, n)).map_err(Failure::Output),
+        Input::Failed(e) => Err(Failure::Input(e)),
     }
-    lines::run(part(&input, 0, n), &mut a, &mut b, &mut held);
 }

@@ -1,6 +1,7 @@
 // The calls of a walker, each on the state that the call before it left. A state is made anew for each line: to add another one, add its fields to State, and its rows in a
 // module of their own, which hands on as this one does.
 use crate::tables;
+use std::io::{Result, Stdout};
 use test_output::numbered;
 use test_text::{Words, is_row, part};
 
@@ -38,8 +39,9 @@ fn step(state: State, src: &[u8]) -> State {
     }
 }
 
-// Makes a call, says what it answers, and answers the state after. key, left, w, a and b are as `test_formats::say` has them, and the rows too.
+// Makes a call, says what it answers, and answers the state after. key, left, w, a and b are as `test_formats::say` has them, and the rows too; out is as `tables::say` has it.
 pub(crate) fn say(
+    out: &mut Stdout,
     state: State,
     key: &[u8],
     left: Words,
@@ -47,19 +49,19 @@ pub(crate) fn say(
     a: &[u8],
     b: &[u8],
     held: &mut [u8],
-) -> State {
+) -> Result<State> {
     if is_row(key, b"walker.new X") {
-        return made(a, test_walker::new_at(a), held);
+        return Ok(made(a, test_walker::new_at(a), held));
     }
     if is_row(key, b"walker.made XN") {
-        return made(a, w.n9, held);
+        return Ok(made(a, w.n9, held));
     }
     if is_row(key, b"walker.look") {
-        return look(state, part(held, 0, state.len));
+        return Ok(look(state, part(held, 0, state.len)));
     }
     if is_row(key, b"walker.step") {
-        return step(state, part(held, 0, state.len));
+        return Ok(step(state, part(held, 0, state.len)));
     }
-    tables::say(key, left, w, a, b);
-    state
+    tables::say(out, key, left, w, a, b)?;
+    Ok(state)
 }

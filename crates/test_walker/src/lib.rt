@@ -1,5 +1,5 @@
 // A walker for callers that keep its place as a plain number between the calls: each call makes a walker of src at a place, and calls it once.
-// Rattle does not follow a struct that holds a slice, so these are proved by hand, and who calls them has no walk by hand to write.
+// So a program's state needs no slice in it.
 #![tactic(auto)]
 
 ghost use Rattle.std.specs.Prelude.{◌≡◌};
