@@ -5,4 +5,5 @@ use Rattle.test_journal.proofs.sum.say_start.Goals as goal
 
 pub slice_bounds-say_first_lines-end : goal.slice_bounds-say_first_lines-end
 slice_bounds-say_first_lines-end c =
-    omega (arith, (fill_part _ _ _ _ _ _ _ c.in-Part.is c.fill.ensures.fills).within)
+    let m = fill_part _ _ _ _ _ _ _ c.in-Part.is c.fill.ensures.fills in
+    omega (arith, m.within)

@@ -5,7 +5,7 @@ use Rattle.listing.proofs.Laws.{left}
 use Rattle.test_journal.proofs.sum.through.Given as goal
 
 abbrev pub invariant-loop-len : goal.invariant-loop-len
-invariant-loop-len l = length l.out ≡ length l.initial.out
+invariant-loop-len l = length l.out ≡ length l.fn.out
 
 abbrev pub decreases-loop-len : goal.decreases-loop-len
 decreases-loop-len l = left l.journal l.here
