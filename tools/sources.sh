@@ -4,7 +4,7 @@
 # Sets kit, the folder of the Rattle kit.
 find_kit() {
     command -v rt >/dev/null || stop "rt, the command of the Rattle kit, is not on the PATH"
-    guide=$(rt doc) || stop "rt, the command of the Rattle kit, does not run"
+    guide=$(rt doc </dev/null) || stop "rt, the command of the Rattle kit, does not run"
     kit=$(cd "$(dirname "$guide")" && pwd)
 }
 
