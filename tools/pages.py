@@ -8,7 +8,7 @@ FOLDER_OF = {"Says": "specs", "Theorems": "proofs", "One answer": "proofs"}
 
 # Names of things outside this repository. Those that are written "the Rust's `x`" or "C's `x`" need no entry.
 OUTSIDE = {
-    "words of Rattle, its logic and its library": "requires ensures result buf.now buf.old buf.new match let if else now length take usize usize::MAX &[u8] &mut",
+    "words of Rattle, its logic and its library": "requires ensures result buf.now buf.old buf.new unreachable!() match let if else now length take usize usize::MAX &[u8] &mut",
     "the kit's command, and what it prints": "rt axioms=",
     "words of a listing, and of the samples": "request response entity other refused whole cut too no plain p",
     "commands of the system": "cat cc echo head python3",
