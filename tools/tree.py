@@ -58,6 +58,7 @@ def closing(text, at):
 def type_names(text):
     """Types with their fields and cases: `Lv`, `start`, `Step`, `Step::End`, `End`."""
     names = set()
+    names |= set(re.findall(r"\btrait\s+(\w+)", text))
     for m in re.finditer(r"\b(struct|enum)\s+(\w+)[^{;]*\{", text):
         body = text[m.end():closing(text, m.end() - 1)]
         names |= {m.group(2)} | set(re.findall(r"\b([a-z]\w*)\s*:", body))
@@ -66,37 +67,54 @@ def type_names(text):
     return names
 
 
+def public_traits():
+    """The traits of the repository, but for the tests' own, and those of std that a conversion is an `impl` of."""
+    texts = [read(p) for p in files_below("crates", ".rt") if not p.startswith("crates/test_")]
+    return {"From", "TryFrom"} | {name for text in texts for name in re.findall(r"\bpub trait (\w+)", text)}
+
+
+def blocks_of_functions(text):
+    """The blocks in which a function stands with a name before its own: start, end, that name, what a trait is of, whether each function in it is public."""
+    for m in re.finditer(r"\bimpl(?:<[^>]*>)?\s+(?:(\w+)(?:<(\w+)>)?\s+for\s+)?(\w+)[^{]*\{", text):
+        yield m.start(), closing(text, m.end() - 1), m.group(3), m.group(2), m.group(1) in TRAITS
+    for m in re.finditer(r"\b(pub\s+)?trait\s+(\w+)[^{]*\{", text):
+        yield m.start(), closing(text, m.end() - 1), m.group(2), None, bool(m.group(1))
+
+
 def functions(text):
-    """The functions and constants of a file: the name, with its type where it stands in an `impl` (`Lv::new`), whether it is a public call, its place."""
-    impls = [(m.start(), closing(text, m.end() - 1), m.group(1)) for m in re.finditer(r"\bimpl(?:<[^>]*>)?\s+(\w+)[^{]*\{", text)]
+    """The functions and constants of a file: the name, with its type where it stands in an `impl` (`Lv::new`, `u8::from(TlvType)`), whether it is a public
+    call, its place."""
+    blocks = list(blocks_of_functions(text))
     for m in re.finditer(r"(\bpub\s+)?(?:extern\s+\"C\"\s+)?\b(fn|const)\s+(\w+)", text):
-        holder = [h + "::" for start, end, h in impls if start <= m.start() < end]
-        yield "".join(holder) + m.group(3), bool(m.group(1)) and m.group(2) == "fn", m.start()
+        within = [b for b in blocks if b[0] <= m.start() < b[1]]
+        name = "".join(b[2] + "::" for b in within) + m.group(3) + "".join("(%s)" % b[3] for b in within if b[3])
+        yield name, (bool(m.group(1)) or any(b[4] for b in within)) and m.group(2) == "fn", m.start()
 
 
 def rattle_names(text):
     """What a file of code declares, parameters and modules too."""
     names = type_names(text)
     for name, _, _ in functions(text):
-        names |= {name, name.split("::")[-1]}
+        names |= {name, name.split("(")[0], name.split("(")[0].split("::")[-1]}
     for params in re.findall(r"\bfn\s+\w+\(([^()]*)\)", text):
         names |= set(re.findall(r"\b(\w+)\s*:", params))
     return names | set(re.findall(r"\bmod\s+(\w+)\s*;", text))
 
 
 class Crate:
-    """A folder of crates/: what each of its files declares, its public calls (with file and line), its edits (with their files)."""
+    """A folder of crates/: what each of its files declares, its public calls (with file and line), its edits (with their files). Of a crate that exports to C
+    its exports are the calls, and its conversions are not."""
 
     def __init__(self, name):
         self.name, self.folder, self.heading = name, "crates/" + name, None
         self.page = self.folder + "/PROMISES.md"
         self.declared = {p: antt_names(read(p)) for part in ("/specs", "/proofs") for p in files_below(self.folder + part, ".antt")}
-        self.calls = {}
+        self.calls, exports = {}, any("no_mangle" in read(p) for p in files_below(self.folder + "/src", ".rt"))
         for path in files_below(self.folder + "/src", ".rt"):
             text = re.sub(r"//[^\n]*", "", read(path))
             self.declared[path] = rattle_names(text)
             if exists(self.folder + "/src/lib.rt"):
-                self.calls.update({call: (path, text.count("\n", 0, at) + 1) for call, public, at in functions(text) if public})
+                self.calls.update({call: (path, text.count("\n", 0, at) + 1) for call, public, at in functions(text) if public and not (exports and "(" in call)})
         edits = [p for part in ("/must-fail", "/tried") for p in files_below(self.folder + part, ".edit")]
         self.edits = {os.path.basename(p)[:-5]: p for p in edits}
 
@@ -110,6 +128,9 @@ class Crate:
         if name.endswith(".."):
             return any(n.startswith(name[:-2]) for names in sets for n in names)
         return any(self.own(name) in names for names in sets)
+
+
+TRAITS = public_traits()
 
 
 def all_crates():

@@ -8,15 +8,11 @@ use lib.ListN.{length, get_or}
 use lib.Dec.{ltb}
 use borrow.Author.Tests.{lt-ltb, le-ltb, ltb-true, ltb-false}
 use Rattle.bluebook.specs.Layouts.{actions}
-use Rattle.refusal.specs.Answer.{Answer, gives, refuses}
+use Rattle.refusal.specs.Answer.{gives, refuses}
 use Rattle.refusal.proofs.Laws.{gives_same, gives_or_refuses}
-use Rattle.refusal.proofs.Once.{refusal_of_refused, untold, one_told}
 use Rattle.action.specs.Rules.{code_of, codes, action_at, action_of}
-use Rattle.action.specs.Told.{told_action}
 use Rattle.action.specs.declared.FilestoreActionCode.{FilestoreActionCode}
 use Rattle.action.specs.declared.FilestoreActionCode.TheVariants.{CreateFile, DeleteFile, RenameFile, AppendFile, ReplaceFile, CreateDirectory, RemoveDirectory, DenyFile, DenyDirectory}
-use Rattle.action.specs.declared.ActionCodeRead.{ActionCodeRead}
-use Rattle.action.specs.declared.ActionCodeRead.TheVariants.{Read, Refused}
 
 -- ---- the list of actions is in the order of their codes, from k on
 
@@ -51,10 +47,6 @@ action_back RemoveDirectory = refl
 action_back DenyFile = refl
 action_back DenyDirectory = refl
 
--- the tests of a number against 0, 1, 2, ..: each that fails leaves one number more behind
-pub more : {n k : ℕ} → k ≤ n → (n ≡ k → ⊥) → k + 1 ≤ n
-more h e = omega arith
-
 pub action_of_known : (n : ℕ) → n < length actions → action_of n ≡ gives (action_at n)
 unfolding action_of
 action_of_known n h = simp (lt-ltb n (length actions) h)
@@ -80,12 +72,3 @@ code_known a = (action_of_lem (code_of a) a (action_back a)).0
 -- two actions are the same where their codes are
 pub one_code : (a b : FilestoreActionCode) → code_of a ≡ code_of b → a ≡ b
 one_code a b e = gives_same a b (sym (action_back a) ∙ ap action_of e ∙ action_back b)
-
--- ---- ONE ANSWER: of `from_code`
-
-pub one_action : (x : Answer FilestoreActionCode) (a b : ActionCodeRead) → told_action a ≡ x → told_action b ≡ x → a ≡ b
-one_action = one_told told_action Read Refused back
-  where
-    back : (a : ActionCodeRead) → untold Read Refused (told_action a) ≡ a
-    back (Read a) = refl
-    back (Refused r) = ap Refused (refusal_of_refused r)

@@ -2,65 +2,54 @@
 // A port of FilestoreActionCode and fs_request_has_second_filename of src/cfdp/tlv/mod.rs of spacepackets 0.19.0.
 #![tactic(auto)]
 
+ghost use Rattle.refusal.specs.Told.{told};
 ghost use Rattle.std.specs.Prelude.{◌≡◌};
 ghost use Rattle.action.specs.Rules.{code_of, action_of, due_of};
-ghost use Rattle.action.specs.Told.{told_action};
 
 use refusal::Refusal;
 
-#[derive(Clone, Copy)]
+#[derive(Clone, Copy, PartialEq, Eq)]
 pub enum FilestoreActionCode {
-    CreateFile,
-    DeleteFile,
-    RenameFile,
-    AppendFile,
-    ReplaceFile,
-    CreateDirectory,
-    RemoveDirectory,
-    DenyFile,
-    DenyDirectory,
+    CreateFile = 0,
+    DeleteFile = 1,
+    RenameFile = 2,
+    AppendFile = 3,
+    ReplaceFile = 4,
+    CreateDirectory = 5,
+    RemoveDirectory = 6,
+    DenyFile = 7,
+    DenyDirectory = 8,
 }
 
-// What reading an action's number answers.
-#[derive(Clone, Copy)]
-pub enum ActionCodeRead {
-    Read(FilestoreActionCode),
-    Refused(Refusal),
-}
+// The action of a number. 7 where it has none.
+impl TryFrom<u8> for FilestoreActionCode {
+    type Error = Refusal;
 
-impl FilestoreActionCode {
-    // The action of a number. 7 where it has none.
-    pub fn from_code(code: u8) -> ActionCodeRead
-        ensures { told_action result ≡ action_of code }
-    {
+    ghost try_from_gives = { λ code r. told r ≡ action_of code };
+
+    #[tactic(auto, using(crate::proofs::Laws::action_of_none), unfolding(crate::specs::Rules::action_of, crate::specs::Rules::action_at))]
+    fn try_from(code: u8) -> Result<Self, Refusal> {
         match code {
-            0 => ActionCodeRead::Read(FilestoreActionCode::CreateFile),
-            1 => ActionCodeRead::Read(FilestoreActionCode::DeleteFile),
-            2 => ActionCodeRead::Read(FilestoreActionCode::RenameFile),
-            3 => ActionCodeRead::Read(FilestoreActionCode::AppendFile),
-            4 => ActionCodeRead::Read(FilestoreActionCode::ReplaceFile),
-            5 => ActionCodeRead::Read(FilestoreActionCode::CreateDirectory),
-            6 => ActionCodeRead::Read(FilestoreActionCode::RemoveDirectory),
-            7 => ActionCodeRead::Read(FilestoreActionCode::DenyFile),
-            8 => ActionCodeRead::Read(FilestoreActionCode::DenyDirectory),
-            _ => ActionCodeRead::Refused(Refusal::InvalidFilestoreActionCode(code)),
+            0 => Ok(FilestoreActionCode::CreateFile),
+            1 => Ok(FilestoreActionCode::DeleteFile),
+            2 => Ok(FilestoreActionCode::RenameFile),
+            3 => Ok(FilestoreActionCode::AppendFile),
+            4 => Ok(FilestoreActionCode::ReplaceFile),
+            5 => Ok(FilestoreActionCode::CreateDirectory),
+            6 => Ok(FilestoreActionCode::RemoveDirectory),
+            7 => Ok(FilestoreActionCode::DenyFile),
+            8 => Ok(FilestoreActionCode::DenyDirectory),
+            _ => Err(Refusal::InvalidFilestoreActionCode(code)),
         }
     }
+}
 
-    pub fn to_code(self) -> u8
-        ensures { result ≡ code_of self }
-    {
-        match self {
-            FilestoreActionCode::CreateFile => 0,
-            FilestoreActionCode::DeleteFile => 1,
-            FilestoreActionCode::RenameFile => 2,
-            FilestoreActionCode::AppendFile => 3,
-            FilestoreActionCode::ReplaceFile => 4,
-            FilestoreActionCode::CreateDirectory => 5,
-            FilestoreActionCode::RemoveDirectory => 6,
-            FilestoreActionCode::DenyFile => 7,
-            FilestoreActionCode::DenyDirectory => 8,
-        }
+// The number of an action.
+impl From<FilestoreActionCode> for u8 {
+    ghost from_gives = { λ action code. code ≡ code_of action };
+
+    fn from(action_code: FilestoreActionCode) -> u8 {
+        action_code as u8
     }
 }
 
@@ -68,15 +57,10 @@ impl FilestoreActionCode {
 pub fn fs_request_has_second_filename(action_code: FilestoreActionCode) -> bool
     ensures { result ≡ due_of action_code }
 {
-    match action_code {
-        FilestoreActionCode::CreateFile => false,
-        FilestoreActionCode::DeleteFile => false,
-        FilestoreActionCode::RenameFile => true,
-        FilestoreActionCode::AppendFile => true,
-        FilestoreActionCode::ReplaceFile => true,
-        FilestoreActionCode::CreateDirectory => false,
-        FilestoreActionCode::RemoveDirectory => false,
-        FilestoreActionCode::DenyFile => false,
-        FilestoreActionCode::DenyDirectory => false,
-    }
+    matches!(
+        action_code,
+        FilestoreActionCode::RenameFile
+            | FilestoreActionCode::AppendFile
+            | FilestoreActionCode::ReplaceFile
+    )
 }

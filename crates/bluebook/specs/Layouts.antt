@@ -1,7 +1,6 @@
 -- CCSDS 727.0-B-5: its layouts, as functions from what is meant to octets, the numbers of its types, and its table of actions.
 -- A layout is a list of numbers. Nothing here knows of buffers, places in them, or refusals.
-use Rattle.std.specs.Prelude.{◌≡◌, ℕ, zero, suc, ◌+◌, ◌*◌, ◌/◌, ◌%◌, ◌^◌, ◌≤◌, ◌<◌, Bool, true, false, List, [], ◌∷◌, ◌++◌, length, get_or}
-use Rattle.std.proofs.Math.Option.{Option, some, none}
+use Rattle.std.specs.Prelude.{◌≡◌, ℕ, zero, suc, ◌+◌, ◌*◌, ◌/◌, ◌%◌, ◌^◌, ◌≤◌, ◌<◌, Bool, true, false, List, [], ◌∷◌, ◌++◌, length, get_or, None, Option, Some}
 
 -- an octet is a number below 256
 abbrev pub Octets : List ℕ → Type 0
@@ -89,8 +88,8 @@ abbrev pub second_present : ℕ → Bool
 second_present a = (get_or actions a (row false)).second
 
 abbrev pub there : Option (List ℕ) → Bool
-there (some v) = true
-there none = false
+there (Some v) = true
+there None = false
 
 -- an action of the table, and a second name exactly where its row has one
 pub record Named (action : ℕ) (second : Option (List ℕ)) : Type 0 where
@@ -98,8 +97,8 @@ pub record Named (action : ℕ) (second : Option (List ℕ)) : Type 0 where
   pub due : there second ≡ second_present action
 
 abbrev pub lv_if : Option (List ℕ) → List ℕ
-lv_if (some v) = lv v
-lv_if none = []
+lv_if (Some v) = lv v
+lv_if None = []
 
 -- ---- filestore request: an octet with the action in its high four bits, the low four spare, all 0; then the names as LVs
 

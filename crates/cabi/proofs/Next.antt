@@ -12,20 +12,10 @@ use Rattle.refusal.specs.Answer.{Answer, gives}
 use Rattle.lv.specs.Rules.{span}
 use Rattle.walk.specs.Journal.{end_at}
 use Rattle.walk.specs.Rules.{limit, Standing, found, ended, front, step_at}
-use Rattle.walk.specs.declared.End.{End}
 use Rattle.walk.specs.declared.End.TheVariants.{Whole, Cut}
 use Rattle.walk.specs.declared.Record.{Record}
 use Rattle.walk.proofs.Steps.{says, step_long, step_past, step_there}
-use Rattle.cabi.specs.Boundary.{numbered, step_by, step_answer, next_answer, step_of}
-
--- the numbers of an end
-abbrev place : End → ℕ
-place (Whole q) = q
-place (Cut q behind) = q
-
-abbrev stump : End → ℕ
-stump (Whole q) = 0
-stump (Cut q behind) = behind
+use Rattle.cabi.specs.Boundary.{numbered, step_by, step_answer, next_answer, step_of, place_of, behind_of}
 
 module _ (s : List ℕ) (p : ℕ) where
   told_record : (r : Record) (next : ℕ) → front p (drop p s) ≡ found r next → r.value ≡ span (p + 2) (next - (p + 2))
@@ -34,8 +24,8 @@ module _ (s : List ℕ) (p : ℕ) where
       ap (λ (x : Record). x.value) is ∙ ap (span (p + 2)) (omega (arith, to))
 
   told_cut : (q behind : ℕ) (d : List ℕ) → Cut q behind ≡ end_at p d → length d ≡ length s - p → behind ≡ length s - q
-  told_cut q behind [] e n = let z : behind ≡ 0 = ap stump e in omega (arith, ap place e)
-  told_cut q behind (b ∷ bs) e n = omega (arith, ap place e, ap stump e)
+  told_cut q behind [] e n = let z : behind ≡ 0 = ap behind_of e in omega (arith, ap place_of e)
+  told_cut q behind (b ∷ bs) e n = omega (arith, ap place_of e, ap behind_of e)
 
   pub next_tells : step_answer (step_at s p) ≡ step_of (length s) p (next_answer (step_at s p))
   next_tells = long (leb (length s) limit) refl

@@ -1,5 +1,5 @@
 -- What crosses the boundary to C: how a struct holds an answer of document 01, and which values of the library stand for what C hands in.
-use Rattle.std.specs.Prelude.{◌≡◌, ℕ, ◌+◌, ◌-◌, List, [], ◌∷◌, length, get_or, eqb}
+use Rattle.std.specs.Prelude.{◌≡◌, ℕ, ◌+◌, ◌-◌, List, [], ◌∷◌, length, get_or, eqb, None, Option, Some}
 use Rattle.bluebook.specs.Layouts.{Entity}
 use Rattle.refusal.specs.Answer.{Answer, gives, refuses, pick, map_answer, and_then}
 use Rattle.splice.specs.Writing.{leaves}
@@ -14,8 +14,6 @@ use Rattle.action.specs.Rules.{code_of, action_of}
 use Rattle.action.specs.declared.FilestoreActionCode.{FilestoreActionCode}
 use Rattle.action.specs.declared.FilestoreActionCode.TheVariants.{CreateFile}
 use Rattle.filestore_base.specs.Rules.{write_base}
-use Rattle.filestore_base.specs.declared.SecondName.{SecondName}
-use Rattle.filestore_base.specs.declared.SecondName.TheVariants.{There, Absent}
 use Rattle.filestore_request.specs.Rules.{request_of as aRequest, request_base}
 use Rattle.filestore_request.specs.declared.FilestoreRequestTlv.{FilestoreRequestTlv}
 use Rattle.filestore_response.specs.Rules.{response_of as aResponse, response_base}
@@ -102,13 +100,13 @@ entity_answer = crossed entity_out (entity_of 0 0)
 
 -- a request and a response: a second name is a number, 1 where it is there, and its span
 
-abbrev pub has_second : SecondName → ℕ
-has_second (There l) = 1
-has_second Absent = 0
+abbrev pub has_second : Option Lv → ℕ
+has_second (Some l) = 1
+has_second None = 0
 
-abbrev pub second_span : SecondName → Span
-second_span (There l) = span_of l
-second_span Absent = span_of no_span
+abbrev pub second_span : Option Lv → Span
+second_span (Some l) = span_of l
+second_span None = span_of no_span
 
 abbrev pub request_of : FilestoreRequestTlv → Request
 request_of q = record {
@@ -125,7 +123,7 @@ abbrev pub request_out : Numbered → FilestoreRequestTlv → RequestAnswer
 request_out n q = requested n (request_of q)
 
 abbrev pub no_request : FilestoreRequestTlv
-no_request = aRequest CreateFile no_span Absent
+no_request = aRequest CreateFile no_span None
 
 abbrev pub request_answer : Answer FilestoreRequestTlv → RequestAnswer
 request_answer = crossed request_out no_request
@@ -147,7 +145,7 @@ abbrev pub response_out : Numbered → FilestoreResponseTlv → ResponseAnswer
 response_out n q = responded n (response_of q)
 
 abbrev pub no_response : FilestoreResponseTlv
-no_response = aResponse CreateFile 0 no_span Absent no_span
+no_response = aResponse CreateFile 0 no_span None no_span
 
 abbrev pub response_answer : Answer FilestoreResponseTlv → ResponseAnswer
 response_answer = crossed response_out no_response
@@ -231,8 +229,8 @@ abbrev pub span_in : Span → Lv
 span_in s = span s.start s.len
 
 -- a second name is there where the number is not 0
-abbrev pub second_in : ℕ → Span → SecondName
-second_in there s = pick (eqb there 0) Absent (There (span_in s))
+abbrev pub second_in : ℕ → Span → Option Lv
+second_in there s = pick (eqb there 0) None (Some (span_in s))
 
 abbrev pub request_in : Request → FilestoreActionCode → FilestoreRequestTlv
 request_in q a = aRequest a (span_in q.first_name) (second_in q.has_second q.second_name)

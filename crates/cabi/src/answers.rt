@@ -1,249 +1,195 @@
 // The library's answers as structs for C.
-ghost use Rattle.std.specs.Prelude.{◌≡◌, []};
-ghost use Rattle.refusal.specs.Told.{number_of, values_of, told_written};
+ghost use Rattle.std.specs.Prelude.{◌≡◌};
+ghost use Rattle.refusal.specs.Told.{number_of, values_of, told};
 ghost use Rattle.lv.specs.Rules.{span};
-ghost use Rattle.lv.specs.Told.{told_lv};
-ghost use Rattle.tlv.specs.Told.{told_tlv};
 ghost use Rattle.entity_id.specs.Told.{told_entity};
-ghost use Rattle.filestore_request.specs.Told.{told_request};
-ghost use Rattle.filestore_response.specs.Told.{told_response};
 ghost use Rattle.walk.specs.Told.{told_step, told_summary};
 ghost use Rattle.kind.specs.Told.{told_kind};
-ghost use Rattle.cabi.specs.Boundary.{numbered, no_span, span_of, has_second, second_span, request_of, response_of, step_by, next_by, kind_by, written_answer, lv_answer, tlv_answer, entity_answer, request_answer, response_answer, step_answer, next_answer, summary_answer, kind_answer};
+ghost use Rattle.cabi.specs.Boundary.{numbered, refusal, or_else, span_of, has_second, second_span, request_of, response_of, step_by, written_answer, lv_answer, tlv_answer, entity_answer, request_answer, response_answer, step_answer, next_answer, summary_answer, kind_answer};
 
 use crate::{
     EntityAnswer, KindAnswer, LvAnswer, NextAnswer, Numbered, Request, RequestAnswer, Response,
     ResponseAnswer, Span, StepAnswer, SummaryAnswer, TlvAnswer, WrittenAnswer,
 };
-use entity_id::EntityIdRead;
-use filestore_base::SecondName;
-use filestore_request::{FilestoreRequestRead, FilestoreRequestTlv};
-use filestore_response::{FilestoreResponseRead, FilestoreResponseTlv};
+use action::FilestoreActionCode;
+use entity_id::{EntityIdTlv, UnsignedByteField};
+use filestore_request::FilestoreRequestTlv;
+use filestore_response::FilestoreResponseTlv;
 use kind::Kind;
-use lv::{Lv, LvRead};
-use refusal::{Refusal, Values, Written};
-use tlv::TlvRead;
-use walk::{End, Step, Summary};
+use lv::Lv;
+use refusal::{Refusal, Values};
+use tlv::{Tlv, TlvTypeField};
+use walk::{End, Record, Step, Summary};
 
-// Where nothing is refused.
-fn none() -> Numbered
-    ensures { result ≡ numbered 0 [] }
-{
-    Numbered {
-        number: 0,
-        first: 0,
-        second: 0,
-        third: 0,
-    }
-}
+impl From<Refusal> for Numbered {
+    ghost from_gives = { λ r n. n ≡ numbered (number_of r) (values_of r) };
 
-fn refusal(r: Refusal) -> Numbered
-    ensures { result ≡ numbered (number_of r) (values_of r) }
-{
-    let number = r.number() as usize;
-    match r.values() {
-        Values::None => Numbered {
-            number,
-            first: 0,
-            second: 0,
-            third: 0,
-        },
-        Values::One(first) => Numbered {
-            number,
-            first,
-            second: 0,
-            third: 0,
-        },
-        Values::Two(first, second) => Numbered {
-            number,
-            first,
-            second,
-            third: 0,
-        },
-        Values::Three(first, second, third) => Numbered {
-            number,
+    fn from(r: Refusal) -> Numbered {
+        let (first, second, third) = match r.values() {
+            Values::None => (0, 0, 0),
+            Values::One(first) => (first, 0, 0),
+            Values::Two(first, second) => (first, second, 0),
+            Values::Three(first, second, third) => (first, second, third),
+        };
+        Numbered {
+            number: r.number() as usize,
             first,
             second,
             third,
-        },
-    }
-}
-
-// Where there is no value.
-fn no_span() -> Span
-    ensures { result ≡ span_of no_span }
-{
-    Span { start: 0, len: 0 }
-}
-
-fn span_of(l: Lv) -> Span
-    ensures { result ≡ span_of l }
-{
-    Span {
-        start: l.start,
-        len: l.len,
-    }
-}
-
-fn has_second(s: SecondName) -> u8
-    ensures { result ≡ has_second s }
-{
-    match s {
-        SecondName::There(_) => 1,
-        SecondName::Absent => 0,
-    }
-}
-
-fn second_span(s: SecondName) -> Span
-    ensures { result ≡ second_span s }
-{
-    match s {
-        SecondName::There(l) => span_of(l),
-        SecondName::Absent => no_span(),
-    }
-}
-
-pub(crate) fn written(a: Written) -> WrittenAnswer
-    ensures { result ≡ written_answer (told_written a) }
-{
-    match a {
-        Written::Bytes(bytes) => WrittenAnswer {
-            refusal: none(),
-            bytes,
-        },
-        Written::Refused(r) => WrittenAnswer {
-            refusal: refusal(r),
-            bytes: 0,
-        },
-    }
-}
-
-pub(crate) fn lv(a: LvRead) -> LvAnswer
-    ensures { result ≡ lv_answer (told_lv a) }
-{
-    match a {
-        LvRead::Read(l) => LvAnswer {
-            refusal: none(),
-            value: span_of(l),
-        },
-        LvRead::Refused(r) => LvAnswer {
-            refusal: refusal(r),
-            value: no_span(),
-        },
-    }
-}
-
-pub(crate) fn tlv(a: TlvRead) -> TlvAnswer
-    ensures { result ≡ tlv_answer (told_tlv a) }
-{
-    match a {
-        TlvRead::Read(t) => {
-            let field = t.tlv_type_field;
-            let l = t.lv;
-            TlvAnswer {
-                refusal: none(),
-                tlv_type: field.to_byte(),
-                value: span_of(l),
-            }
         }
-        TlvRead::Refused(r) => TlvAnswer {
-            refusal: refusal(r),
-            tlv_type: 0,
-            value: no_span(),
-        },
     }
 }
 
-pub(crate) fn entity(a: EntityIdRead) -> EntityAnswer
-    ensures { result ≡ entity_answer (told_entity a) }
-{
-    match a {
-        EntityIdRead::Read(e) => {
-            let id = e.entity_id;
-            EntityAnswer {
-                refusal: none(),
-                width: id.width,
-                value: id.value,
-            }
+impl From<Lv> for Span {
+    ghost from_gives = { λ l s. s ≡ span_of l };
+
+    fn from(l: Lv) -> Span {
+        Span {
+            start: l.start,
+            len: l.len,
         }
-        EntityIdRead::Refused(r) => EntityAnswer {
-            refusal: refusal(r),
-            width: 0,
-            value: 0,
-        },
     }
 }
 
-fn request_of(q: FilestoreRequestTlv) -> Request
-    ensures { result ≡ request_of q }
-{
-    let action = q.action_code;
-    let l = q.first_name;
-    let second_name = q.second_name;
-    Request {
-        action: action.to_code(),
-        has_second: has_second(second_name),
-        first_name: span_of(l),
-        second_name: second_span(second_name),
-    }
-}
-
-fn response_of(q: FilestoreResponseTlv) -> Response
-    ensures { result ≡ response_of q }
-{
-    let action = q.action_code;
-    let l = q.first_name;
-    let second_name = q.second_name;
-    let m = q.filestore_message;
-    Response {
-        action: action.to_code(),
-        status: q.status_code,
-        has_second: has_second(second_name),
-        first_name: span_of(l),
-        second_name: second_span(second_name),
-        filestore_message: span_of(m),
-    }
-}
-
-pub(crate) fn request(a: FilestoreRequestRead) -> RequestAnswer
-    ensures { result ≡ request_answer (told_request a) }
+// A call's refusal, number 0 where there is none, and what the call gives, or `zero` where it refuses.
+fn split<A: Copy>(a: Result<A, Refusal>, zero: A) -> (Numbered, A)
+    ensures refusal { result.0 ≡ refusal (told a) }
+    ensures given { result.1 ≡ or_else zero (told a) }
 {
     match a {
-        FilestoreRequestRead::Read(q) => RequestAnswer {
-            refusal: none(),
-            request: request_of(q),
-        },
-        FilestoreRequestRead::Refused(r) => RequestAnswer {
-            refusal: refusal(r),
-            request: Request {
-                action: 0,
-                has_second: 0,
-                first_name: no_span(),
-                second_name: no_span(),
-            },
-        },
+        Ok(given) => (Numbered::default(), given),
+        Err(r) => (r.into(), zero),
     }
 }
 
-pub(crate) fn response(a: FilestoreResponseRead) -> ResponseAnswer
-    ensures { result ≡ response_answer (told_response a) }
+impl From<Result<usize, Refusal>> for WrittenAnswer {
+    ghost from_gives = { λ a x. x ≡ written_answer (told a) };
+
+    fn from(a: Result<usize, Refusal>) -> WrittenAnswer {
+        let (refusal, bytes) = split(a, 0);
+        WrittenAnswer { refusal, bytes }
+    }
+}
+
+impl From<Result<Lv, Refusal>> for LvAnswer {
+    ghost from_gives = { λ a x. x ≡ lv_answer (told a) };
+
+    fn from(a: Result<Lv, Refusal>) -> LvAnswer {
+        let (refusal, l) = split(a, Lv::new_empty());
+        LvAnswer {
+            refusal,
+            value: l.into(),
+        }
+    }
+}
+
+impl From<Result<Tlv, Refusal>> for TlvAnswer {
+    ghost from_gives = { λ a x. x ≡ tlv_answer (told a) };
+
+    fn from(a: Result<Tlv, Refusal>) -> TlvAnswer {
+        let zero = Tlv {
+            tlv_type_field: TlvTypeField::Custom(0),
+            lv: Lv::new_empty(),
+        };
+        let (refusal, t) = split(a, zero);
+        TlvAnswer {
+            refusal,
+            tlv_type: t.tlv_type_field.into(),
+            value: t.lv.into(),
+        }
+    }
+}
+
+impl From<Result<EntityIdTlv, Refusal>> for EntityAnswer {
+    ghost from_gives = { λ a x. x ≡ entity_answer (told_entity a) };
+
+    fn from(a: Result<EntityIdTlv, Refusal>) -> EntityAnswer {
+        let zero = EntityIdTlv {
+            entity_id: UnsignedByteField { width: 0, value: 0 },
+        };
+        let (refusal, e) = split(a, zero);
+        EntityAnswer {
+            refusal,
+            width: e.entity_id.width,
+            value: e.entity_id.value,
+        }
+    }
+}
+
+// A second name: 1 where it is there, and its span.
+fn second(name: Option<Lv>) -> (u8, Span)
+    ensures there { result.0 ≡ has_second name }
+    ensures span { result.1 ≡ second_span name }
 {
-    match a {
-        FilestoreResponseRead::Read(q) => ResponseAnswer {
-            refusal: none(),
-            response: response_of(q),
-        },
-        FilestoreResponseRead::Refused(r) => ResponseAnswer {
-            refusal: refusal(r),
-            response: Response {
-                action: 0,
-                status: 0,
-                has_second: 0,
-                first_name: no_span(),
-                second_name: no_span(),
-                filestore_message: no_span(),
-            },
-        },
+    match name {
+        Some(l) => (1, l.into()),
+        None => (0, Lv::new_empty().into()),
+    }
+}
+
+impl From<FilestoreRequestTlv> for Request {
+    ghost from_gives = { λ q x. x ≡ request_of q };
+
+    fn from(q: FilestoreRequestTlv) -> Request {
+        let (has_second, second_name) = second(q.second_name);
+        Request {
+            action: q.action_code.into(),
+            has_second,
+            first_name: q.first_name.into(),
+            second_name,
+        }
+    }
+}
+
+impl From<FilestoreResponseTlv> for Response {
+    ghost from_gives = { λ q x. x ≡ response_of q };
+
+    fn from(q: FilestoreResponseTlv) -> Response {
+        let (has_second, second_name) = second(q.second_name);
+        Response {
+            action: q.action_code.into(),
+            status: q.status_code,
+            has_second,
+            first_name: q.first_name.into(),
+            second_name,
+            filestore_message: q.filestore_message.into(),
+        }
+    }
+}
+
+impl From<Result<FilestoreRequestTlv, Refusal>> for RequestAnswer {
+    ghost from_gives = { λ a x. x ≡ request_answer (told a) };
+
+    fn from(a: Result<FilestoreRequestTlv, Refusal>) -> RequestAnswer {
+        let zero = FilestoreRequestTlv {
+            action_code: FilestoreActionCode::CreateFile,
+            first_name: Lv::new_empty(),
+            second_name: None,
+        };
+        let (refusal, q) = split(a, zero);
+        RequestAnswer {
+            refusal,
+            request: q.into(),
+        }
+    }
+}
+
+impl From<Result<FilestoreResponseTlv, Refusal>> for ResponseAnswer {
+    ghost from_gives = { λ a x. x ≡ response_answer (told a) };
+
+    fn from(a: Result<FilestoreResponseTlv, Refusal>) -> ResponseAnswer {
+        let zero = FilestoreResponseTlv {
+            action_code: FilestoreActionCode::CreateFile,
+            status_code: 0,
+            first_name: Lv::new_empty(),
+            second_name: None,
+            filestore_message: Lv::new_empty(),
+        };
+        let (refusal, q) = split(a, zero);
+        ResponseAnswer {
+            refusal,
+            response: q.into(),
+        }
     }
 }
 
@@ -263,110 +209,83 @@ fn at(refusal: Numbered, what: u8, place: usize, behind: usize) -> StepAnswer
     }
 }
 
-pub(crate) fn step(a: Step) -> StepAnswer
-    ensures { result ≡ step_answer (told_step a) }
-{
-    match a {
-        Step::Record { record, next } => {
-            let l = record.value;
-            StepAnswer {
-                refusal: none(),
+impl From<Result<Step, Refusal>> for StepAnswer {
+    ghost from_gives = { λ a x. x ≡ step_answer (told_step a) };
+
+    fn from(a: Result<Step, Refusal>) -> StepAnswer {
+        let record = Record {
+            place: 0,
+            tlv_type: 0,
+            value: Lv::new_empty(),
+        };
+        let (refusal, step) = split(a, Step::Record { record, next: 0 });
+        match step {
+            Step::Record { record, next } => StepAnswer {
+                refusal,
                 what: 0,
                 tlv_type: record.tlv_type,
-                value: span_of(l),
+                value: record.value.into(),
                 next,
-            }
+            },
+            Step::End(End::Whole(place)) => at(refusal, 1, place, 0),
+            Step::End(End::Cut { place, behind }) => at(refusal, 2, place, behind),
         }
-        Step::End(end) => match end {
-            End::Whole(place) => at(none(), 1, place, 0),
-            End::Cut { place, behind } => at(none(), 2, place, behind),
-        },
-        Step::Refused(r) => at(refusal(r), 0, 0, 0),
     }
 }
 
-// An end in two registers.
-fn end_next(next: usize, what: u8) -> NextAnswer
-    ensures { result ≡ next_by next 0 what 0 }
-{
-    NextAnswer {
-        next,
-        tlv_type: 0,
-        what,
-        refusal: 0,
-    }
-}
+// The same in two registers: the number alone of a refusal.
+impl From<Result<Step, Refusal>> for NextAnswer {
+    ghost from_gives = { λ a x. x ≡ next_answer (told_step a) };
 
-pub(crate) fn next(a: Step) -> NextAnswer
-    ensures { result ≡ next_answer (told_step a) }
-{
-    match a {
-        Step::Record { record, next } => NextAnswer {
+    fn from(a: Result<Step, Refusal>) -> NextAnswer {
+        let (next, tlv_type, what, refusal) = match a {
+            Ok(Step::Record { record, next }) => (next, record.tlv_type, 0, 0),
+            Ok(Step::End(End::Whole(place))) => (place, 0, 1, 0),
+            Ok(Step::End(End::Cut { place, behind: _ })) => (place, 0, 2, 0),
+            Err(r) => (0, 0, 3, r.number()),
+        };
+        NextAnswer {
             next,
-            tlv_type: record.tlv_type,
-            what: 0,
-            refusal: 0,
-        },
-        Step::End(end) => match end {
-            End::Whole(place) => end_next(place, 1),
-            End::Cut { place, behind: _ } => end_next(place, 2),
-        },
-        Step::Refused(r) => NextAnswer {
-            next: 0,
-            tlv_type: 0,
-            what: 3,
-            refusal: r.number(),
-        },
+            tlv_type,
+            what,
+            refusal,
+        }
     }
 }
 
-pub(crate) fn summary(a: Summary) -> SummaryAnswer
-    ensures { result ≡ summary_answer (told_summary a) }
-{
-    match a {
-        Summary::Counted { count, end } => match end {
-            End::Whole(place) => SummaryAnswer {
-                refusal: none(),
-                count,
-                place,
-                behind: 0,
-            },
-            End::Cut { place, behind } => SummaryAnswer {
-                refusal: none(),
-                count,
-                place,
-                behind,
-            },
-        },
-        Summary::Refused(r) => SummaryAnswer {
-            refusal: refusal(r),
+impl From<Result<Summary, Refusal>> for SummaryAnswer {
+    ghost from_gives = { λ a x. x ≡ summary_answer (told_summary a) };
+
+    fn from(a: Result<Summary, Refusal>) -> SummaryAnswer {
+        let zero = Summary {
             count: 0,
-            place: 0,
-            behind: 0,
-        },
+            end: End::Whole(0),
+        };
+        let (refusal, summary) = split(a, zero);
+        let (place, behind) = match summary.end {
+            End::Whole(place) => (place, 0),
+            End::Cut { place, behind } => (place, behind),
+        };
+        SummaryAnswer {
+            refusal,
+            count: summary.count,
+            place,
+            behind,
+        }
     }
 }
 
-fn of_kind(kind: u8) -> KindAnswer
-    ensures { result ≡ kind_by (numbered 0 []) kind }
-{
-    KindAnswer {
-        refusal: none(),
-        kind,
-    }
-}
+impl From<Result<Kind, Refusal>> for KindAnswer {
+    ghost from_gives = { λ a x. x ≡ kind_answer (told_kind a) };
 
-pub(crate) fn kind(a: Kind) -> KindAnswer
-    ensures { result ≡ kind_answer (told_kind a) }
-{
-    match a {
-        Kind::Request => of_kind(0),
-        Kind::Response => of_kind(1),
-        Kind::Entity => of_kind(2),
-        Kind::Other => of_kind(3),
-        Kind::Refused(r) => KindAnswer {
-            refusal: refusal(r),
-            kind: 0,
-        },
+    fn from(a: Result<Kind, Refusal>) -> KindAnswer {
+        let (refusal, kind) = split(a, Kind::Request);
+        let kind = match kind {
+            Kind::Request => 0,
+            Kind::Response => 1,
+            Kind::Entity => 2,
+            Kind::Other => 3,
+        };
+        KindAnswer { refusal, kind }
     }
 }

@@ -1,63 +1,60 @@
 // What C hands in, as values of the library.
 ghost use Rattle.std.specs.Prelude.{◌≡◌};
-ghost use Rattle.filestore_request.specs.Told.{told_request};
-ghost use Rattle.filestore_response.specs.Told.{told_response};
+ghost use Rattle.refusal.specs.Told.{told};
 ghost use Rattle.cabi.specs.Boundary.{span_in, second_in, request_given, response_given};
 
 use crate::{Request, Response, Span};
-use action::{ActionCodeRead, FilestoreActionCode};
-use filestore_base::SecondName;
-use filestore_request::{FilestoreRequestRead, FilestoreRequestTlv};
-use filestore_response::{FilestoreResponseRead, FilestoreResponseTlv};
+use action::FilestoreActionCode;
+use filestore_request::FilestoreRequestTlv;
+use filestore_response::FilestoreResponseTlv;
 use lv::Lv;
+use refusal::Refusal;
 
-pub(crate) fn span_in(s: Span) -> Lv
-    ensures { result ≡ span_in s }
-{
-    Lv {
-        start: s.start,
-        len: s.len,
+impl From<Span> for Lv {
+    ghost from_gives = { λ s l. l ≡ span_in s };
+
+    fn from(s: Span) -> Lv {
+        Lv {
+            start: s.start,
+            len: s.len,
+        }
     }
 }
 
-fn second(there: u8, s: Span) -> SecondName
+fn second(there: u8, s: Span) -> Option<Lv>
     ensures { result ≡ second_in there s }
 {
-    if there == 0 {
-        return SecondName::Absent;
-    }
-    SecondName::There(span_in(s))
+    if there == 0 { None } else { Some(s.into()) }
 }
 
 // 7 where there is no such action.
-pub(crate) fn request(q: Request) -> FilestoreRequestRead
-    ensures { told_request result ≡ request_given q }
-{
-    let f = q.first_name;
-    match FilestoreActionCode::from_code(q.action) {
-        ActionCodeRead::Read(action_code) => FilestoreRequestRead::Read(FilestoreRequestTlv {
-            action_code,
-            first_name: span_in(f),
+impl TryFrom<Request> for FilestoreRequestTlv {
+    type Error = Refusal;
+
+    ghost try_from_gives = { λ q a. told a ≡ request_given q };
+
+    fn try_from(q: Request) -> Result<Self, Refusal> {
+        Ok(FilestoreRequestTlv {
+            action_code: FilestoreActionCode::try_from(q.action)?,
+            first_name: q.first_name.into(),
             second_name: second(q.has_second, q.second_name),
-        }),
-        ActionCodeRead::Refused(r) => FilestoreRequestRead::Refused(r),
+        })
     }
 }
 
 // 7 where there is no such action.
-pub(crate) fn response(q: Response) -> FilestoreResponseRead
-    ensures { told_response result ≡ response_given q }
-{
-    let f = q.first_name;
-    let m = q.filestore_message;
-    match FilestoreActionCode::from_code(q.action) {
-        ActionCodeRead::Read(action_code) => FilestoreResponseRead::Read(FilestoreResponseTlv {
-            action_code,
+impl TryFrom<Response> for FilestoreResponseTlv {
+    type Error = Refusal;
+
+    ghost try_from_gives = { λ q a. told a ≡ response_given q };
+
+    fn try_from(q: Response) -> Result<Self, Refusal> {
+        Ok(FilestoreResponseTlv {
+            action_code: FilestoreActionCode::try_from(q.action)?,
             status_code: q.status,
-            first_name: span_in(f),
+            first_name: q.first_name.into(),
             second_name: second(q.has_second, q.second_name),
-            filestore_message: span_in(m),
-        }),
-        ActionCodeRead::Refused(r) => FilestoreResponseRead::Refused(r),
+            filestore_message: q.filestore_message.into(),
+        })
     }
 }

@@ -1,13 +1,16 @@
 // The library for C: each function is one call of the library, on numbers and lent bytes, and answers a struct by value. cabi/balunduwa.h declares
 // them again for C. An answer begins with a refusal, number 0 where there is none; behind it stands what the call gives, 0 where it refuses.
 // `NextAnswer` is otherwise. The plain readers, the writers and the steps return at once where they give a value, bytes or a record: so LLVM keeps that
-// way apart from the others and has nothing to move from one to another.
+// way apart from the others and has nothing to move from one to another. One function that returns for all of them is slower: LLVM inlines it, and there
+// the ways meet again.
 #![tactic(auto)]
 
 mod answers;
 mod arguments;
 
 ghost use Rattle.std.specs.Prelude.{◌≡◌, length};
+ghost use Rattle.refusal.specs.Told.{told};
+ghost use Rattle.splice.specs.Writing.{Wrote};
 ghost use Rattle.lv.specs.Rules.{read_lv, write_lv};
 ghost use Rattle.tlv.specs.Rules.{tlv_of, read_tlv, write_tlv};
 ghost use Rattle.entity_id.specs.Rules.{entity_of, read_entity, write_entity};
@@ -18,19 +21,19 @@ ghost use Rattle.kind.specs.Rules.{kind_at};
 ghost use Rattle.cabi.specs.Boundary.{lv_answer, tlv_answer, entity_answer, request_answer, response_answer, step_answer, next_answer, summary_answer, kind_answer, Sent};
 ghost use Rattle.cabi.specs.Boundary.{span_in, write_request, write_response};
 
-use entity_id::{EntityIdRead, EntityIdTlv, UnsignedByteField};
-use filestore_base::SecondName;
-use filestore_request::{FilestoreRequestRead, FilestoreRequestTlv};
-use filestore_response::{FilestoreResponseRead, FilestoreResponseTlv};
+use entity_id::{EntityIdTlv, UnsignedByteField};
+use filestore_base::FilestoreTlv;
+use filestore_request::FilestoreRequestTlv;
+use filestore_response::FilestoreResponseTlv;
 use kind::kind_at;
-use lv::{Lv, LvRead};
-use refusal::Written;
-use tlv::{Tlv, TlvRead, TlvTypeField};
+use lv::Lv;
+use refusal::Refusal;
+use tlv::{Tlv, TlvTypeField};
 use walk::{Step, step_at, summary_of};
 
 // A refusal: its number and its values, 0 for each that it does not carry.
 #[repr(C)]
-#[derive(Clone, Copy)]
+#[derive(Clone, Copy, Default)]
 pub struct Numbered {
     pub number: usize,
     pub first: usize,
@@ -154,34 +157,30 @@ pub struct KindAnswer {
 pub extern "C" fn balunduwa_lv_read(buf: &[u8]) -> LvAnswer
     ensures { result ≡ lv_answer (read_lv buf.now) }
 {
-    let a = Lv::from_bytes(buf);
-    if let LvRead::Read(v) = a {
-        return answers::lv(LvRead::Read(v));
+    match Lv::from_bytes(buf) {
+        Ok(l) => return Ok(l).into(),
+        Err(r) => Err(r).into(),
     }
-    answers::lv(a)
 }
 
 #[unsafe(no_mangle)]
 pub extern "C" fn balunduwa_lv_write(value: Span, src: &[u8], buf: &mut [u8]) -> WrittenAnswer
     ensures { Sent (write_lv (span_in value) src.now (length buf.old)) result buf.old buf.new }
 {
-    let l = arguments::span_in(value);
-    let a = l.write_to_slice(src, buf);
-    if let Written::Bytes(v) = a {
-        return answers::written(Written::Bytes(v));
+    match Lv::from(value).write_to_slice(src, buf) {
+        Ok(bytes) => return Ok(bytes).into(),
+        Err(r) => Err(r).into(),
     }
-    answers::written(a)
 }
 
 #[unsafe(no_mangle)]
 pub extern "C" fn balunduwa_tlv_read(buf: &[u8]) -> TlvAnswer
     ensures { result ≡ tlv_answer (read_tlv buf.now) }
 {
-    let a = Tlv::from_bytes(buf);
-    if let TlvRead::Read(v) = a {
-        return answers::tlv(TlvRead::Read(v));
+    match Tlv::from_bytes(buf) {
+        Ok(t) => return Ok(t).into(),
+        Err(r) => Err(r).into(),
     }
-    answers::tlv(a)
 }
 
 // The type byte is written as it is: a custom label has any number.
@@ -194,27 +193,24 @@ pub extern "C" fn balunduwa_tlv_write(
 ) -> WrittenAnswer
     ensures { Sent (write_tlv (tlv_of (TlvTypeField.Custom tlv_type) (span_in value)) src.now (length buf.old)) result buf.old buf.new }
 {
-    let lv = arguments::span_in(value);
     let tlv = Tlv {
         tlv_type_field: TlvTypeField::Custom(tlv_type),
-        lv,
+        lv: value.into(),
     };
-    let a = tlv.write_to_slice(src, buf);
-    if let Written::Bytes(v) = a {
-        return answers::written(Written::Bytes(v));
+    match tlv.write_to_slice(src, buf) {
+        Ok(bytes) => return Ok(bytes).into(),
+        Err(r) => Err(r).into(),
     }
-    answers::written(a)
 }
 
 #[unsafe(no_mangle)]
 pub extern "C" fn balunduwa_entity_read(buf: &[u8]) -> EntityAnswer
     ensures { result ≡ entity_answer (read_entity buf.now) }
 {
-    let a = EntityIdTlv::from_bytes(buf);
-    if let EntityIdRead::Read(v) = a {
-        return answers::entity(EntityIdRead::Read(v));
+    match EntityIdTlv::from_bytes(buf) {
+        Ok(e) => return Ok(e).into(),
+        Err(r) => Err(r).into(),
     }
-    answers::entity(a)
 }
 
 #[unsafe(no_mangle)]
@@ -224,11 +220,10 @@ pub extern "C" fn balunduwa_entity_write(width: usize, value: u64, buf: &mut [u8
     let entity = EntityIdTlv {
         entity_id: UnsignedByteField { width, value },
     };
-    let a = entity.write_to_slice(buf);
-    if let Written::Bytes(v) = a {
-        return answers::written(Written::Bytes(v));
+    match entity.write_to_slice(buf) {
+        Ok(bytes) => return Ok(bytes).into(),
+        Err(r) => Err(r).into(),
     }
-    answers::written(a)
 }
 
 // One return for two names and one for one, so that no field that is known to be 0 goes through a register.
@@ -236,32 +231,36 @@ pub extern "C" fn balunduwa_entity_write(width: usize, value: u64, buf: &mut [u8
 pub extern "C" fn balunduwa_request_read(buf: &[u8]) -> RequestAnswer
     ensures { result ≡ request_answer (read_request buf.now) }
 {
-    let a = FilestoreRequestTlv::from_bytes(buf);
-    if let FilestoreRequestRead::Read(v) = a {
-        let action_code = v.action_code;
-        let first_name = v.first_name;
-        let second_name = v.second_name;
-        if let SecondName::There(l) = second_name {
-            return answers::request(FilestoreRequestRead::Read(FilestoreRequestTlv {
-                action_code,
-                first_name,
-                second_name: SecondName::There(l),
-            }));
+    match FilestoreRequestTlv::from_bytes(buf) {
+        Ok(q) => {
+            let Some(l) = q.second_name else {
+                return Ok(FilestoreRequestTlv {
+                    second_name: None,
+                    ..q
+                })
+                .into();
+            };
+            return Ok(FilestoreRequestTlv {
+                second_name: Some(l),
+                ..q
+            })
+            .into();
         }
-        return answers::request(FilestoreRequestRead::Read(FilestoreRequestTlv {
-            action_code,
-            first_name,
-            second_name: SecondName::Absent,
-        }));
+        Err(r) => Err(r).into(),
     }
-    answers::request(a)
 }
 
 #[unsafe(no_mangle)]
 pub extern "C" fn balunduwa_request_read_strict(buf: &[u8]) -> RequestAnswer
     ensures { result ≡ request_answer (strict_request buf.now) }
 {
-    answers::request(FilestoreRequestTlv::from_bytes_strict(buf))
+    FilestoreRequestTlv::from_bytes_strict(buf).into()
+}
+
+fn write_request(request: Request, src: &[u8], buf: &mut [u8]) -> Result<usize, Refusal>
+    ensures { Wrote 0 (write_request request src.now (length buf.old)) (told result) buf.old buf.new }
+{
+    FilestoreRequestTlv::try_from(request)?.write_to_slice(src, buf)
 }
 
 // 7 first, for an action over 8: in the library an action is one of the nine.
@@ -273,15 +272,9 @@ pub extern "C" fn balunduwa_request_write(
 ) -> WrittenAnswer
     ensures { Sent (write_request request src.now (length buf.old)) result buf.old buf.new }
 {
-    match arguments::request(request) {
-        FilestoreRequestRead::Read(q) => {
-            let a = q.write_to_slice(src, buf);
-            if let Written::Bytes(v) = a {
-                return answers::written(Written::Bytes(v));
-            }
-            answers::written(a)
-        }
-        FilestoreRequestRead::Refused(r) => answers::written(Written::Refused(r)),
+    match write_request(request, src, buf) {
+        Ok(bytes) => return Ok(bytes).into(),
+        Err(r) => Err(r).into(),
     }
 }
 
@@ -289,18 +282,23 @@ pub extern "C" fn balunduwa_request_write(
 pub extern "C" fn balunduwa_response_read(buf: &[u8]) -> ResponseAnswer
     ensures { result ≡ response_answer (read_response buf.now) }
 {
-    let a = FilestoreResponseTlv::from_bytes(buf);
-    if let FilestoreResponseRead::Read(v) = a {
-        return answers::response(FilestoreResponseRead::Read(v));
+    match FilestoreResponseTlv::from_bytes(buf) {
+        Ok(q) => return Ok(q).into(),
+        Err(r) => Err(r).into(),
     }
-    answers::response(a)
 }
 
 #[unsafe(no_mangle)]
 pub extern "C" fn balunduwa_response_read_strict(buf: &[u8]) -> ResponseAnswer
     ensures { result ≡ response_answer (strict_response buf.now) }
 {
-    answers::response(FilestoreResponseTlv::from_bytes_strict(buf))
+    FilestoreResponseTlv::from_bytes_strict(buf).into()
+}
+
+fn write_response(response: Response, src: &[u8], buf: &mut [u8]) -> Result<usize, Refusal>
+    ensures { Wrote 0 (write_response response src.now (length buf.old)) (told result) buf.old buf.new }
+{
+    FilestoreResponseTlv::try_from(response)?.write_to_slice(src, buf)
 }
 
 // 7 first, as for a request.
@@ -312,15 +310,9 @@ pub extern "C" fn balunduwa_response_write(
 ) -> WrittenAnswer
     ensures { Sent (write_response response src.now (length buf.old)) result buf.old buf.new }
 {
-    match arguments::response(response) {
-        FilestoreResponseRead::Read(q) => {
-            let a = q.write_to_slice(src, buf);
-            if let Written::Bytes(v) = a {
-                return answers::written(Written::Bytes(v));
-            }
-            answers::written(a)
-        }
-        FilestoreResponseRead::Refused(r) => answers::written(Written::Refused(r)),
+    match write_response(response, src, buf) {
+        Ok(bytes) => return Ok(bytes).into(),
+        Err(r) => Err(r).into(),
     }
 }
 
@@ -328,11 +320,10 @@ pub extern "C" fn balunduwa_response_write(
 pub extern "C" fn balunduwa_walk_step(buf: &[u8], place: usize) -> StepAnswer
     ensures { result ≡ step_answer (step_at buf.now place) }
 {
-    let a = step_at(buf, place);
-    if let Step::Record { record, next } = a {
-        return answers::step(Step::Record { record, next });
+    match step_at(buf, place) {
+        Ok(Step::Record { record, next }) => return Ok(Step::Record { record, next }).into(),
+        other => other.into(),
     }
-    answers::step(a)
 }
 
 // The same in two registers.
@@ -340,23 +331,24 @@ pub extern "C" fn balunduwa_walk_step(buf: &[u8], place: usize) -> StepAnswer
 pub extern "C" fn balunduwa_walk_next(buf: &[u8], place: usize) -> NextAnswer
     ensures { result ≡ next_answer (step_at buf.now place) }
 {
-    let a = step_at(buf, place);
-    if let Step::Record { record, next } = a {
-        return answers::next(Step::Record { record, next });
+    match step_at(buf, place) {
+        Ok(Step::Record { record, next }) => {
+            return NextAnswer::from(Ok(Step::Record { record, next }));
+        }
+        other => other.into(),
     }
-    answers::next(a)
 }
 
 #[unsafe(no_mangle)]
 pub extern "C" fn balunduwa_walk_summary(buf: &[u8]) -> SummaryAnswer
     ensures { result ≡ summary_answer (summary_of buf.now) }
 {
-    answers::summary(summary_of(buf))
+    summary_of(buf).into()
 }
 
 #[unsafe(no_mangle)]
 pub extern "C" fn balunduwa_kind_at(buf: &[u8], place: usize) -> KindAnswer
     ensures { result ≡ kind_answer (kind_at buf.now place) }
 {
-    answers::kind(kind_at(buf, place))
+    kind_at(buf, place).into()
 }

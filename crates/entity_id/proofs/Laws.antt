@@ -1,24 +1,25 @@
 -- The laws of `specs/Rules.antt`, a case each: this crate's proofs cite them, and so do those above it. Assumes nothing.
-use mathlib.Core.Path.{◌≡◌, refl, sym, ap, subst, ◌∙◌}
-use Prim.Native.Nat.{ℕ, ◌+◌, ◌≤◌, ◌<◌}
+use mathlib.Core.Path.{◌≡◌, refl, sym, ap, ◌∙◌}
+use Prim.Native.Nat.{ℕ, ◌+◌, ◌-◌, ◌≤◌, ◌<◌}
 use native.Mathlib.Omega.{arith}
 use mathlib.Core.Bool.{Bool, true, false, ◌||◌}
 use mathlib.Core.List.{List, [], ◌∷◌}
 use lib.ListN.{length, take, drop, get_or, set, length-set}
+use lib.Seq.{length-take-le}
 use lib.Dec.{eqb, leb}
 use borrow.Author.Tests.{le-leb, lt-leb, leb-true, eq-eqb, ne_eqb, eqb-true}
 use Rattle.bluebook.specs.Layouts.{entity_id, be_bytes, Entity, entity}
-use Rattle.refusal.specs.Answer.{Answer, gives, refuses, short_at, map_answer, also, Test}
+use Rattle.refusal.specs.Answer.{Answer, gives, refuses, short_at, map_answer, also}
 use Rattle.refusal.specs.Reader.{Took, took}
-use Rattle.refusal.proofs.Laws.{gives_same, mapped_by, map_answer_refused, also_refused, also_passed, also_both, also_assoc, pick_passed}
+use Rattle.refusal.proofs.Laws.{gives_same, gives_or_refuses, mapped_by, also_refused, also_passed, also_both, pick_passed}
 use Rattle.splice.specs.Laid.{laid}
-use Rattle.splice.specs.Writing.{room_at, Wrote}
+use Rattle.splice.specs.Writing.{room_at, leaves, Wrote}
 use Rattle.splice.proofs.Laws.{laid_cons}
-use Rattle.splice.proofs.Writing.{room_for_in, room_for_out, wrote, wrote_laid, gives_room}
-use Rattle.number.specs.Rules.{of_be, number_test}
-use Rattle.number.proofs.Laws.{number_test_passed, number_test_in, length_be}
+use Rattle.splice.proofs.Writing.{room_for_in, room_for_out, room_at_there, wrote, gives_room}
+use Rattle.number.specs.Rules.{of_be, read_be, number_test}
+use Rattle.number.proofs.Laws.{read_be_in, number_test_passed, number_test_in, length_be}
 use Rattle.lv.specs.Rules.{span, part_of, span_test}
-use Rattle.lv.proofs.Laws.{span_test_passed, length-part_of}
+use Rattle.lv.proofs.Laws.{span_test_passed}
 use Rattle.tlv.specs.Kinds.{byte_of, is_standard}
 use Rattle.tlv.specs.Rules.{tlv_of}
 use Rattle.tlv.specs.declared.Tlv.{Tlv}
@@ -43,10 +44,6 @@ pub width_none : (w : ℕ) → (w ≡ 1 → ⊥) → (w ≡ 2 → ⊥) → (w �
 unfolding width_ok
 width_none w a b c d = simp (ne_eqb w 1 a, ne_eqb w 2 b, ne_eqb w 4 c, ne_eqb w 8 d)
 
--- so a width is one of the four
-pub width_some : (w : ℕ) → width_ok w ≡ true → (w ≡ 1 → ⊥) → (w ≡ 2 → ⊥) → (w ≡ 4 → ⊥) → (w ≡ 8 → ⊥) → ⊥
-width_some w h a b c d = let e = width_none w a b c d in let z : ◌≡◌ {A = ℕ} 0 1 = cc in omega arith
-
 pub width_test_in : (w : ℕ) → width_ok w ≡ true → width_test w ≡ gives tt
 unfolding width_test
 width_test_in w h = rw h
@@ -58,6 +55,10 @@ width_test_other w h = rw h
 pub width_test_passed : (w : ℕ) → gives tt ≡ width_test w → width_ok w ≡ true
 unfolding width_test
 width_test_passed w e = pick_passed (width_ok w) 5 (w ∷ []) e
+
+-- bytes of a width are read
+pub read_first : (w : ℕ) (v : List ℕ) → w ≤ length v → w ≤ 8 → read_be (take w v) ≡ gives (of_be (take w v))
+read_first w v h k = read_be_in (take w v) (omega (arith, length-take-le w v h))
 
 -- ---- building
 
@@ -75,18 +76,14 @@ pub entity_test_ok : (e : Entity) → EntityOk e → gives tt ≡ entity_test e
 entity_test_ok e h =
     sym (entity_test_is e ∙ rw (width_test_in e.width h.wide, number_test_in e.number e.width (width_bounds e.width h.wide).1 h.fits))
 
-module _ (e : Entity) where
-  pub new_entity_refused : (n : ℕ) (vs : List ℕ) → refuses n vs ≡ entity_test e → refuses n vs ≡ new_entity e
-  unfolding new_entity
-  new_entity_refused n vs h = also_refused (entity_test e) (gives e) n vs h
+-- and so its width is at most 8
+pub entity_test_short : (e : Entity) → gives tt ≡ entity_test e → e.width ≤ 8
+entity_test_short e p = (width_bounds e.width (entity_test_passed e p).wide).1
 
+module _ (e : Entity) where
   pub new_entity_passed : gives tt ≡ entity_test e → new_entity e ≡ gives e
   unfolding new_entity
   new_entity_passed h = also_passed (entity_test e) (gives e) h
-
-  pub len_entity_refused : (n : ℕ) (vs : List ℕ) → refuses n vs ≡ entity_test e → refuses n vs ≡ len_entity e
-  unfolding len_entity
-  len_entity_refused n vs h = also_refused (entity_test e) (gives (e.width + 2)) n vs h
 
   pub len_entity_passed : gives tt ≡ entity_test e → len_entity e ≡ gives (e.width + 2)
   unfolding len_entity
@@ -132,33 +129,18 @@ value_test_passed n len e = leb-true _ _ (pick_passed (leb (len + 2) n) 1 (n ∷
 
 -- ---- reading
 
-module _ (bs : List ℕ) where
-  pub read_entity_head : (n : ℕ) (vs : List ℕ) → refuses n vs ≡ head_test (length bs) → refuses n vs ≡ read_entity bs
+module _ (bs : List ℕ) (head : gives tt ≡ head_test (length bs)) (type : gives tt ≡ type_test (get_or bs 0 0)) (wide : gives tt ≡ width_test (get_or bs 1 0)) where
+  pub read_entity_short : length bs < get_or bs 1 0 + 2 → read_entity bs ≡ short_at 0 (length bs) (get_or bs 1 0 + 2)
   unfolding read_entity take_entity
-  read_entity_head n vs e = rw (← e)
+  read_entity_short h = rw (← head, ← type, ← wide, value_test_short (length bs) (get_or bs 1 0) h)
 
-  module _ (head : gives tt ≡ head_test (length bs)) where
-    pub read_entity_type : (n : ℕ) (vs : List ℕ) → refuses n vs ≡ type_test (get_or bs 0 0) → refuses n vs ≡ read_entity bs
-    unfolding read_entity take_entity
-    read_entity_type n vs e = rw (← head, ← e)
+  pub take_entity_whole : get_or bs 1 0 + 2 ≤ length bs → take_entity bs ≡ gives (took (numbered (take (get_or bs 1 0) (drop 2 bs))) (drop (get_or bs 1 0 + 2) bs))
+  unfolding take_entity
+  take_entity_whole h = rw (← head, ← type, ← wide, value_test_in (length bs) (get_or bs 1 0) h)
 
-    module _ (type : gives tt ≡ type_test (get_or bs 0 0)) where
-      pub read_entity_width : (n : ℕ) (vs : List ℕ) → refuses n vs ≡ width_test (get_or bs 1 0) → refuses n vs ≡ read_entity bs
-      unfolding read_entity take_entity
-      read_entity_width n vs e = rw (← head, ← type, ← e)
-
-      module _ (wide : gives tt ≡ width_test (get_or bs 1 0)) where
-        pub read_entity_short : length bs < get_or bs 1 0 + 2 → read_entity bs ≡ short_at 0 (length bs) (get_or bs 1 0 + 2)
-        unfolding read_entity take_entity
-        read_entity_short h = rw (← head, ← type, ← wide, value_test_short (length bs) (get_or bs 1 0) h)
-
-        pub take_entity_whole : get_or bs 1 0 + 2 ≤ length bs → take_entity bs ≡ gives (took (numbered (take (get_or bs 1 0) (drop 2 bs))) (drop (get_or bs 1 0 + 2) bs))
-        unfolding take_entity
-        take_entity_whole h = rw (← head, ← type, ← wide, value_test_in (length bs) (get_or bs 1 0) h)
-
-        pub read_entity_whole : get_or bs 1 0 + 2 ≤ length bs → read_entity bs ≡ gives (numbered (take (get_or bs 1 0) (drop 2 bs)))
-        unfolding read_entity
-        read_entity_whole h = ap (map_answer (λ t. t.got)) (take_entity_whole h)
+  pub read_entity_whole : get_or bs 1 0 + 2 ≤ length bs → read_entity bs ≡ gives (numbered (take (get_or bs 1 0) (drop 2 bs)))
+  unfolding read_entity
+  read_entity_whole h = ap (map_answer (λ t. t.got)) (take_entity_whole h)
 
 -- what is taken passed every test
 pub record Taken (bs : List ℕ) (t : Took Entity) : Type 0 where
@@ -194,40 +176,43 @@ module _ (f : TlvTypeField) where
   unfolding label_test
   label_test_custom h = rw h
 
--- what `from_tlv` tests
-abbrev pub tlv_test : Tlv → List ℕ → Test
-tlv_test t bs = also (also (label_test t.tlv_type_field) (width_test t.lv.len)) (span_test t.lv bs)
-
 module _ (t : Tlv) (bs : List ℕ) where
-  pub of_tlv_is : of_tlv t bs ≡ also (tlv_test t bs) (gives (numbered (part_of t.lv bs)))
+  pub of_tlv_passed : gives tt ≡ label_test t.tlv_type_field → gives tt ≡ width_test t.lv.len → gives tt ≡ span_test t.lv bs → of_tlv t bs ≡ gives (numbered (part_of t.lv bs))
   unfolding of_tlv
-  of_tlv_is =
-      sym (also_assoc (also (label_test t.tlv_type_field) (width_test t.lv.len)) (span_test t.lv bs) _ ∙ also_assoc (label_test t.tlv_type_field) (width_test t.lv.len) _)
-
-  pub of_tlv_refused : (n : ℕ) (vs : List ℕ) → refuses n vs ≡ tlv_test t bs → refuses n vs ≡ of_tlv t bs
-  of_tlv_refused n vs e = also_refused (tlv_test t bs) _ n vs e ∙ sym of_tlv_is
-
-  pub of_tlv_passed : gives tt ≡ tlv_test t bs → of_tlv t bs ≡ gives (numbered (part_of t.lv bs))
-  of_tlv_passed e = of_tlv_is ∙ also_passed (tlv_test t bs) _ e
+  of_tlv_passed fine wide inside = rw (← fine, ← wide, ← inside)
 
 -- what is known of a TLV that passed: its value is all there, and as long as a width
-pub record Held (t : Tlv) (bs : List ℕ) : Type 0 where
+pub record Held (t : Tlv) (bs : List ℕ) (e : Entity) : Type 0 where
   pub fine : gives tt ≡ label_test t.tlv_type_field
   pub wide : width_ok t.lv.len ≡ true
   pub inside : t.lv.start + t.lv.len ≤ length bs
-  pub size : length (part_of t.lv bs) ≡ t.lv.len
+  pub is : e ≡ numbered (part_of t.lv bs)
 
-pub held : (t : Tlv) (bs : List ℕ) → gives tt ≡ tlv_test t bs → Held t bs
-held t bs e =
-    let a = also_both (also (label_test t.tlv_type_field) (width_test t.lv.len)) (span_test t.lv bs) tt e in
-    let b = also_both (label_test t.tlv_type_field) (width_test t.lv.len) tt a.0 in
-    let i = span_test_passed t.lv bs a.1 in
-    record { fine = b.0; wide = width_test_passed t.lv.len b.1; inside = i; size = length-part_of t.lv bs i }
+pub of_tlv_given : (t : Tlv) (bs : List ℕ) (e : Entity) → of_tlv t bs ≡ gives e → Held t bs e
+unfolding of_tlv
+of_tlv_given t bs e p =
+    let a = also_both (label_test t.tlv_type_field) _ e (sym p) in
+    let b = also_both (width_test t.lv.len) _ e a.1 in
+    let c = also_both (span_test t.lv bs) _ e b.1 in
+    record { fine = a.0; wide = width_test_passed t.lv.len b.0; inside = span_test_passed t.lv bs c.0; is = gives_same e _ c.1 }
 
 -- ---- an entity ID made of a width and a number is that of the bytes that have them
 
 pub numbered_by : (v : List ℕ) {w x : ℕ} → length v ≡ w → x ≡ of_be v → entity_of w x ≡ numbered v
 numbered_by v n e = λ i. entity_of (sym n i) (e i)
+
+-- and so is one whose number `value_of` told
+pub record Valued (v : List ℕ) (w x : ℕ) : Type 0 where
+  pub wide : gives tt ≡ width_test w
+  pub is : entity_of w x ≡ numbered v
+
+pub valued : (v : List ℕ) {w x : ℕ} → length v ≡ w → gives x ≡ also (width_test (length v)) (gives (of_be v)) → Valued v w x
+valued v {x = x} n e =
+    let b = also_both (width_test (length v)) (gives (of_be v)) x e in
+    record { wide = b.0 ∙ ap width_test n; is = numbered_by v n (gives_same _ _ b.1) }
+
+pub value_not_refused : (v : List ℕ) {w n : ℕ} {vs : List ℕ} → length v ≡ w → gives tt ≡ width_test w → refuses n vs ≡ also (width_test (length v)) (gives (of_be v)) → ⊥
+value_not_refused v {n = n} {vs = vs} k h e = gives_or_refuses (of_be v) n vs (sym (e ∙ also_passed (width_test (length v)) (gives (of_be v)) (h ∙ sym (ap width_test k))))
 
 -- ---- writing
 
@@ -281,29 +266,33 @@ writable e n bs h =
       gives_it = h ∙ ap gives g.2;
     }
 
--- what `room_test` told
-module _ (e : Entity) (n : ℕ) where
-  pub told_refused : (k : ℕ) (vs : List ℕ) → refuses k vs ≡ room_test e n → refuses k vs ≡ write_entity e n
-  told_refused k vs h = map_answer_refused (λ _. tt) (write_entity e n) k vs h
+-- what `room_test` tells: that it can be written, or what room there is
+pub told_writable : (e : Entity) (n : ℕ) → gives tt ≡ room_test e n → Writable e n
+told_writable e n h =
+    let m = mapped_by (λ _. tt) (write_entity e n) tt (sym h) in
+    writable e n m.0 m.1
 
-  pub told_writable : gives tt ≡ room_test e n → Writable e n
-  told_writable h =
-      let m = mapped_by (λ _. tt) (write_entity e n) tt (sym h) in
-      writable e n m.0 m.1
+pub room_test_small : (e : Entity) (n : ℕ) → gives tt ≡ entity_test e → gives tt ≡ head_test n → n < e.width + 2 → room_test e n ≡ refuses 2 (n ∷ (e.width + 2) ∷ [])
+room_test_small e n fine head h = ap (map_answer (λ _. tt)) (write_entity_small e n fine h ∙ also_passed (head_test n) _ head)
 
--- what was written could be
-pub wrote_writable : (e : Entity) (old : List ℕ) {new : List ℕ} {k : ℕ} → Wrote 0 (write_entity e (length old)) (gives k) old new → Writable e (length old)
-wrote_writable e old {k = k} w =
-    let m = mapped_by length (write_entity e (length old)) k (sym w.answer) in
-    writable e (length old) m.0 m.1
+pub room_test_in : (e : Entity) (n : ℕ) → gives tt ≡ entity_test e → e.width + 2 ≤ n → room_test e n ≡ gives tt
+room_test_in e n fine h = ap (map_answer (λ _. tt)) (write_entity_room e n fine h)
 
--- a number that fits is laid down by `number::write`
-pub number_laid : (e : Entity) (old new : List ℕ) {told : Answer ℕ} → EntityOk e → e.width + 2 ≤ length old
-    → Wrote 2 (also (number_test e.number e.width) (room_at 2 (length old) (be_bytes e.width e.number))) told old new → new ≡ laid 2 (be_bytes e.width e.number) old
-number_laid e old new {told} h k w =
-    wrote_laid 2 (be_bytes e.width e.number) old new (omega (arith, length_be e.width e.number))
-    (subst (λ (x : Answer (List ℕ)). Wrote 2 x told old new)
-    (also_passed (number_test e.number e.width) (room_at 2 (length old) (be_bytes e.width e.number)) (sym (number_test_in e.number e.width (width_bounds e.width h.wide).1 h.fits))) w)
+-- a number that fits is laid down by `number::write`, wherever there is room for it
+pub number_out : (e : Entity) (at n : ℕ) → EntityOk e → at + e.width ≤ n → also (number_test e.number e.width) (room_at at n (be_bytes e.width e.number)) ≡ gives (be_bytes e.width e.number)
+number_out e at n h k =
+    let v = be_bytes e.width e.number in
+    let l : length v ≡ e.width = length_be e.width e.number in
+    also_passed (number_test e.number e.width) (room_at at n v) (sym (number_test_in e.number e.width (width_bounds e.width h.wide).1 h.fits))
+    ∙ room_at_there at n v (omega arith)
+    ∙ room_for_in (n - at) v (omega arith)
+
+module _ (e : Entity) (at : ℕ) (old new : List ℕ) (h : EntityOk e) (k : at + e.width ≤ length old) where
+  pub number_laid : {told : Answer ℕ} → Wrote at (also (number_test e.number e.width) (room_at at (length old) (be_bytes e.width e.number))) told old new → new ≡ laid at (be_bytes e.width e.number) old
+  number_laid w = w.bytes ∙ ap (λ (a : Answer (List ℕ)). leaves at a old) (number_out e at (length old) h k)
+
+  pub number_not_refused : {n : ℕ} {vs : List ℕ} → Wrote at (also (number_test e.number e.width) (room_at at (length old) (be_bytes e.width e.number))) (refuses n vs) old new → ⊥
+  number_not_refused {n} {vs} w = gives_or_refuses _ n vs (sym (w.answer ∙ ap (map_answer length) (number_out e at (length old) h k)))
 
 module _ (e : Entity) (old : List ℕ) where
   pub wrote_entity : (new : List ℕ) → Writable e (length old) → new ≡ laid 2 (be_bytes e.width e.number) (set (set old 0 entity_id) 1 e.width) → Wrote 0 (write_entity e (length old)) (gives (e.width + 2)) old new
@@ -315,10 +304,6 @@ module _ (e : Entity) (old : List ℕ) where
       ∙ laid_cons 1 e.width v (set old 0 entity_id) (omega (arith, length-set old 0 entity_id))
       ∙ laid_cons 0 entity_id (e.width ∷ v) old (omega arith)
       ∙ ap (λ (w : ℕ). laid 0 (entity_id ∷ w ∷ v) old) (sym n))
-
-  pub made_refused : (k : ℕ) (vs : List ℕ) → refuses k vs ≡ write_entity e (length old) → MadeTlv e (refuses k vs) old old
-  unfolding tlv_entity
-  made_refused k vs h = record { answer = rw (← h); bytes = rw (← h) }
 
   pub made_tlv : (told : Answer Tlv) (new : List ℕ) → Writable e (length old) → told ≡ gives (tlv_of label (span 2 e.width)) → new ≡ laid 2 (be_bytes e.width e.number) old → MadeTlv e told old new
   unfolding tlv_entity

@@ -3,208 +3,166 @@
 // refusals before the first byte is read or written.
 #![tactic(auto)]
 
-ghost use Rattle.std.specs.Prelude.{◌≡◌, ◌+◌, ◌≤◌, true, length, take, drop};
-ghost use Rattle.refusal.specs.Answer.{map_answer};
-ghost use Rattle.refusal.specs.Told.{told_written, told_checked, told_length};
+ghost use Rattle.std.specs.Prelude.{◌≡◌, ◌+◌, ◌≤◌, length, take};
+ghost use Rattle.refusal.specs.Answer.{gives, also};
+ghost use Rattle.refusal.specs.Told.{told};
 ghost use Rattle.splice.specs.Writing.{Wrote};
 ghost use Rattle.number.specs.Rules.{of_be};
-ghost use Rattle.tlv.specs.Kinds.{type_of, is_standard};
-ghost use Rattle.tlv.specs.Told.{told_tlv};
-ghost use Rattle.entity_id.specs.Rules.{entity_of, id_of, meaning, label, width_ok, width_test, entity_test, new_entity, len_entity, head_test, type_test, read_entity, label_test, of_tlv, write_entity, room_test, MadeTlv, same_entity};
+ghost use Rattle.entity_id.specs.Rules.{entity_of, id_of, meaning, label as entity_label, width_test, entity_test, new_entity, len_entity, head_test, type_test, read_entity, label_test, of_tlv, write_entity, room_test, MadeTlv, same_entity};
 ghost use Rattle.entity_id.specs.Told.{told_entity};
 
-use number::Number;
-use refusal::{Checked, Length, Refusal, Written};
-use tlv::{StandardType, Tlv, TlvRead, TlvType, TlvTypeField};
+use refusal::Refusal;
+use tlv::{GenericTlv, Tlv, TlvType, TlvTypeField};
 
 // A number and how many bytes it is written in.
-#[derive(Clone, Copy)]
+#[derive(Clone, Copy, PartialEq, Eq)]
 pub struct UnsignedByteField {
     pub width: usize,
     pub value: u64,
 }
 
-#[derive(Clone, Copy)]
+#[derive(Clone, Copy, PartialEq, Eq)]
 pub struct EntityIdTlv {
     pub entity_id: UnsignedByteField,
 }
 
-// What building and reading answer.
-#[derive(Clone, Copy)]
-pub enum EntityIdRead {
-    Read(EntityIdTlv),
-    Refused(Refusal),
-}
-
 // The type byte.
-const ENTITY_ID: u8 = 0x06;
+const ENTITY_ID: u8 = TlvType::EntityId as u8;
 
 // 5 where a width is none of the four.
-fn width_test(width: usize) -> Checked
-    ensures { told_checked result ≡ width_test width }
+#[tactic(auto, unfolding(crate::specs::Rules::width_test, crate::specs::Rules::width_ok))]
+fn width_test(width: usize) -> Result<(), Refusal>
+    ensures { told result ≡ width_test width }
 {
     match width {
-        1 | 2 | 4 | 8 => Checked::Fine,
-        _ => Checked::Refused(Refusal::InvalidValueLength(width)),
+        1 | 2 | 4 | 8 => Ok(()),
+        _ => Err(Refusal::InvalidValueLength(width)),
     }
 }
 
-// What building tests: 5, then 10.
-fn entity_test(id: UnsignedByteField) -> Checked
-    ensures { told_checked result ≡ entity_test (id_of id) }
-{
-    let width = id.width;
-    width_test(width).then(number::test(id.value, width))
-}
-
 // 2 where n bytes have no room for the type and length bytes: the Rust's answer of readers too.
-fn head_test(n: usize) -> Checked
-    ensures { told_checked result ≡ head_test n }
+#[tactic(auto, unfolding(crate::specs::Rules::head_test))]
+fn head_test(n: usize) -> Result<(), Refusal>
+    ensures { told result ≡ head_test n }
 {
     if n < 2 {
-        return Checked::Refused(Refusal::ToSliceTooSmall {
+        return Err(Refusal::ToSliceTooSmall {
             found: n,
             expected: 2,
         });
     }
-    Checked::Fine
+    Ok(())
 }
 
 // 3 where a type byte is another.
-fn type_test(found: u8) -> Checked
-    ensures { told_checked result ≡ type_test found }
+#[tactic(auto, unfolding(crate::specs::Rules::type_test))]
+fn type_test(found: u8) -> Result<(), Refusal>
+    ensures { told result ≡ type_test found }
 {
     let expected = ENTITY_ID;
     if found != expected {
-        return Checked::Refused(Refusal::InvalidTlvTypeFieldError { found, expected });
+        return Err(Refusal::InvalidTlvTypeFieldError { found, expected });
     }
-    Checked::Fine
+    Ok(())
 }
 
 // 3 where a label is not the standard one: a custom label never is.
-fn label_test(field: TlvTypeField) -> Checked
-    ensures { told_checked result ≡ label_test field }
+#[tactic(auto, unfolding(crate::specs::Rules::label_test))]
+fn label_test(field: TlvTypeField) -> Result<(), Refusal>
+    ensures { told result ≡ label_test field }
 {
     match field {
-        TlvTypeField::Standard(t) => type_test(t.to_byte()),
-        TlvTypeField::Custom(found) => Checked::Refused(Refusal::InvalidTlvTypeFieldError {
+        TlvTypeField::Standard(t) => type_test(u8::from(t)),
+        TlvTypeField::Custom(found) => Err(Refusal::InvalidTlvTypeFieldError {
             found,
             expected: ENTITY_ID,
         }),
     }
 }
 
-// Whether an entity ID can be written to n bytes: 5, 10, then 2. Where there is room, one test says so.
-fn room_test(id: UnsignedByteField, n: usize) -> Checked
-    ensures { told_checked result ≡ room_test (id_of id) n }
+// The number of the first WIDTH bytes of v. Their count is a constant, so that LLVM makes it one load.
+#[tactic(auto, using(crate::proofs::Laws::read_first))]
+fn first<const WIDTH: usize>(v: &[u8]) -> Result<u64, Refusal>
+    requires inside { WIDTH ≤ length v.now }
+    requires short { WIDTH ≤ 8 }
+    ensures { told result ≡ gives (of_be (take WIDTH v.now)) }
 {
-    let test = entity_test(id);
-    if let Checked::Refused(r) = test {
-        return Checked::Refused(r);
-    }
-    let expected = id.width + 2;
-    if n < expected {
-        let small = Checked::Refused(Refusal::ToSliceTooSmall { found: n, expected });
-        return head_test(n).then(small);
-    }
-    Checked::Fine
+    number::read(&v[..WIDTH])
 }
 
-// The number of the first w bytes of v. Where its caller names w, LLVM makes it one load. w is an argument of its own, since LLVM does not see a
-// slice's length when it decides what to inline.
-fn first(v: &[u8], w: usize) -> u64
-    requires { (w ≤ length v.now) × (w ≤ 8) }
-    ensures { result ≡ of_be (take w v.now) }
-{
-    match number::read(&v[..w]) {
-        Number::Is(value) => value,
-        Number::Refused(_) => 0,
-    }
-}
-
-// The number of the bytes v, where their count is a width; else 0. It names each width, so that LLVM makes a copy of `first` for each.
-fn value_of(v: &[u8]) -> u64
-    ensures { width_ok (length v.now) ≡ true → result ≡ of_be v.now }
+// The number of the bytes v. 5 where their count is no width. The widths are compared one by one: of a match on the four LLVM makes a table of jumps,
+// 15 to 20 instructions more for a read, and 6 to 9 for a write.
+#[tactic(auto, unfolding(crate::specs::Rules::width_test, crate::specs::Rules::width_ok))]
+fn value_of(v: &[u8]) -> Result<u64, Refusal>
+    ensures { told result ≡ also (width_test (length v.now)) (gives (of_be v.now)) }
 {
     let width = v.len();
     if 4 <= width {
         if width == 8 {
-            return first(v, 8);
+            return first::<8>(v);
         }
         if width == 4 {
-            return first(v, 4);
+            return first::<4>(v);
         }
     } else {
         if width == 1 {
-            return first(v, 1);
+            return first::<1>(v);
         }
         if width == 2 {
-            return first(v, 2);
+            return first::<2>(v);
         }
     }
-    0
+    Err(Refusal::InvalidValueLength(width))
 }
 
-// The same of the bytes of buf behind the type and length bytes; 0 where they are not all there.
-fn value_at(width: usize, buf: &[u8]) -> u64
-    requires { width ≤ 255 }
-    ensures { width_ok width ≡ true → width + 2 ≤ length buf.now → result ≡ of_be (take width (drop 2 buf.now)) }
+// Writes an entity ID of the width WIDTH to the front of buf. 5, 10, then 2. The width is a constant, so that LLVM makes the number one store.
+fn written<const WIDTH: usize>(value: u64, buf: &mut [u8]) -> Result<usize, Refusal>
+    ensures { Wrote 0 (write_entity (entity_of WIDTH value) (length buf.old)) (told result) buf.old buf.new }
 {
-    let end = width + 2;
-    if buf.len() < end {
-        return 0;
-    }
-    value_of(&buf[2..end])
-}
-
-// Writes an entity ID to the front of buf, or says what refuses it: 5, 10, then 2. Its caller names each width, so that LLVM makes a copy of it for
-// each.
-fn written(width: usize, value: u64, buf: &mut [u8]) -> Checked
-    ensures { Wrote 0 (write_entity (entity_of width value) (length buf.old)) (map_answer (λ _. width + 2) (told_checked result)) buf.old buf.new }
-{
-    let id = UnsignedByteField { width, value };
-    let test = room_test(id, buf.len());
-    if let Checked::Refused(r) = test {
-        return Checked::Refused(r);
-    }
+    let id = UnsignedByteField {
+        width: WIDTH,
+        value,
+    };
+    id.room_test(buf.len())?;
     buf[0] = ENTITY_ID;
-    buf[1] = width as u8;
-    number::write(id.value, width, buf, 2);
-    Checked::Fine
+    buf[1] = WIDTH as u8;
+    number::write(value, WIDTH, buf, 2)?;
+    Ok(WIDTH + 2)
 }
 
-// The same, with each width named. It leaves to its caller to say how many bytes are written: said here, LLVM would store it for each width and
-// load it again.
-fn written_by_width(width: usize, value: u64, buf: &mut [u8]) -> Checked
-    ensures { Wrote 0 (write_entity (entity_of width value) (length buf.old)) (map_answer (λ _. width + 2) (told_checked result)) buf.old buf.new }
-{
-    if 4 <= width {
-        if width == 8 {
-            return written(8, value, buf);
-        }
-        if width == 4 {
-            return written(4, value, buf);
-        }
-    } else {
-        if width == 1 {
-            return written(1, value, buf);
-        }
-        if width == 2 {
-            return written(2, value, buf);
-        }
+impl UnsignedByteField {
+    // What building tests: 5, then 10.
+    #[tactic(auto, unfolding(crate::specs::Rules::entity_test))]
+    fn test(self) -> Result<(), Refusal>
+        ensures { told result ≡ entity_test (id_of self) }
+    {
+        width_test(self.width)?;
+        number::test(self.value, self.width)
     }
-    Checked::Refused(Refusal::InvalidValueLength(width))
+
+    // Whether an entity ID can be written to n bytes: 5, 10, then 2. Where there is room, one test says so.
+    #[tactic(auto, using(crate::proofs::Laws::entity_test_short), unfolding(crate::specs::Rules::write_entity, crate::specs::Rules::write_test))]
+    fn room_test(self, n: usize) -> Result<(), Refusal>
+        ensures { told result ≡ room_test (id_of self) n }
+    {
+        self.test()?;
+        let expected = self.width + 2;
+        if n < expected {
+            head_test(n)?;
+            return Err(Refusal::ToSliceTooSmall { found: n, expected });
+        }
+        Ok(())
+    }
 }
 
 impl EntityIdTlv {
     // 5, then 10.
-    pub fn new(entity_id: UnsignedByteField) -> EntityIdRead
+    #[tactic(auto, unfolding(crate::specs::Rules::new_entity))]
+    pub fn new(entity_id: UnsignedByteField) -> Result<EntityIdTlv, Refusal>
         ensures { told_entity result ≡ new_entity (id_of entity_id) }
     {
-        match entity_test(entity_id) {
-            Checked::Fine => EntityIdRead::Read(EntityIdTlv { entity_id }),
-            Checked::Refused(r) => EntityIdRead::Refused(r),
-        }
+        entity_id.test()?;
+        Ok(EntityIdTlv { entity_id })
     }
 
     pub fn entity_id(self) -> UnsignedByteField
@@ -217,120 +175,98 @@ impl EntityIdTlv {
     pub fn len_value(self) -> usize
         ensures { result ≡ self.entity_id.width }
     {
-        let id = self.entity_id;
-        id.width
+        self.entity_id.width
     }
 
     // The length of the whole TLV, with the type and length bytes. 5, then 10.
-    pub fn len_full(self) -> Length
-        ensures { told_length result ≡ len_entity (meaning self) }
+    #[tactic(auto, using(crate::proofs::Laws::entity_test_short), unfolding(crate::specs::Rules::len_entity))]
+    pub fn len_full(self) -> Result<usize, Refusal>
+        ensures { told result ≡ len_entity (meaning self) }
     {
         let id = self.entity_id;
-        let test = entity_test(id);
-        if let Checked::Refused(r) = test {
-            return Length::Refused(r);
-        }
-        Length::Len(id.width + 2)
+        id.test()?;
+        Ok(id.width + 2)
     }
 
-    // The entity ID at the front of buf. What stands behind it is ignored. 2, 3, 5, then 1. The number is read before the width is tested, so that
-    // LLVM makes the two choices by width one.
-    pub fn from_bytes(buf: &[u8]) -> EntityIdRead
+    // The entity ID at the front of buf. What stands behind it is ignored. 2, 3, 5, then 1. Where the value is all there, the width is looked at once:
+    // by the choice of how it is read.
+    #[tactic(auto, using(crate::proofs::Laws::head_test_passed, crate::proofs::Laws::value_test_short), unfolding(crate::specs::Rules::read_entity, crate::specs::Rules::take_entity))]
+    pub fn from_bytes(buf: &[u8]) -> Result<EntityIdTlv, Refusal>
         ensures { told_entity result ≡ read_entity buf.now }
     {
-        let n = buf.len();
-        let head = head_test(n);
-        if let Checked::Refused(r) = head {
-            return EntityIdRead::Refused(r);
-        }
-        let test = type_test(buf[0]);
-        if let Checked::Refused(r) = test {
-            return EntityIdRead::Refused(r);
-        }
+        let found = buf.len();
+        head_test(found)?;
+        type_test(buf[0])?;
         let width = buf[1] as usize;
-        let value = value_at(width, buf);
-        let allowed = width_test(width);
-        if let Checked::Refused(r) = allowed {
-            return EntityIdRead::Refused(r);
-        }
         let expected = width + 2;
-        if n < expected {
-            return EntityIdRead::Refused(Refusal::FromSliceTooSmall {
-                found: n,
+        if found < expected {
+            width_test(width)?;
+            return Err(Refusal::FromSliceTooSmall {
+                found,
                 expected,
                 place: 0,
             });
         }
-        EntityIdRead::Read(EntityIdTlv {
+        let value = value_of(&buf[2..expected])?;
+        Ok(EntityIdTlv {
             entity_id: UnsignedByteField { width, value },
         })
     }
 
     // Writes the number alone to buf, from byte 2 on, and gives the TLV whose value it is. 5, 10, then 2.
-    pub fn to_tlv(self, buf: &mut [u8]) -> TlvRead
-        ensures { MadeTlv (meaning self) (told_tlv result) buf.old buf.new }
+    #[tactic(auto, unfolding(crate::specs::Rules::tlv_entity))]
+    pub fn to_tlv(self, buf: &mut [u8]) -> Result<Tlv, Refusal>
+        ensures { MadeTlv (meaning self) (told result) buf.old buf.new }
     {
         let id = self.entity_id;
-        let test = room_test(id, buf.len());
-        if let Checked::Refused(r) = test {
-            return TlvRead::Refused(r);
-        }
-        number::write(id.value, id.width, buf, 2);
+        id.room_test(buf.len())?;
+        number::write(id.value, id.width, buf, 2)?;
         Tlv::new(TlvType::EntityId, 2, id.width)
     }
 
-    // Writes the TLV to the front of buf. 5, 10, then 2.
-    pub fn write_to_slice(self, buf: &mut [u8]) -> Written
-        ensures { Wrote 0 (write_entity (meaning self) (length buf.old)) (told_written result) buf.old buf.new }
+    // Writes the TLV to the front of buf, by a way for each width, chosen as in `value_of`. 5, 10, then 2.
+    #[tactic(auto, using(crate::proofs::Laws::width_none, crate::proofs::Laws::write_entity_width, splice::proofs::Writing::wrote_not))]
+    pub fn write_to_slice(self, buf: &mut [u8]) -> Result<usize, Refusal>
+        ensures { Wrote 0 (write_entity (meaning self) (length buf.old)) (told result) buf.old buf.new }
     {
-        let id = self.entity_id;
-        let width = id.width;
-        let test = written_by_width(width, id.value, buf);
-        if let Checked::Refused(r) = test {
-            return Written::Refused(r);
+        let width = self.entity_id.width;
+        let value = self.entity_id.value;
+        if 4 <= width {
+            if width == 8 {
+                return written::<8>(value, buf);
+            }
+            if width == 4 {
+                return written::<4>(value, buf);
+            }
+        } else {
+            if width == 1 {
+                return written::<1>(value, buf);
+            }
+            if width == 2 {
+                return written::<2>(value, buf);
+            }
         }
-        Written::Bytes(width + 2)
+        Err(Refusal::InvalidValueLength(width))
     }
 
-    // The length of the written TLV. 5, then 10.
-    pub fn len_written(self) -> Length
-        ensures { told_length result ≡ len_entity (meaning self) }
+    // The length of the written TLV: `len_full`, since the Rust has both names. 5, then 10.
+    pub fn len_written(self) -> Result<usize, Refusal>
+        ensures { told result ≡ len_entity (meaning self) }
     {
         self.len_full()
     }
 
-    pub fn tlv_type_field(self) -> TlvTypeField
-        ensures { result ≡ label }
-    {
-        TlvTypeField::Standard(TlvType::EntityId)
-    }
-
-    pub fn is_standard_tlv(self) -> bool
-        ensures { result ≡ is_standard label }
-    {
-        true
-    }
-
-    pub fn tlv_type(self) -> StandardType
-        ensures { result ≡ type_of label }
-    {
-        StandardType::There(TlvType::EntityId)
-    }
-
     // The entity ID of a generic TLV whose value lies in buf. 3, 5, then 15.
-    pub fn from_tlv(tlv: Tlv, buf: &[u8]) -> EntityIdRead
+    #[tactic(auto, unfolding(crate::specs::Rules::of_tlv))]
+    pub fn from_tlv(tlv: Tlv, buf: &[u8]) -> Result<EntityIdTlv, Refusal>
         ensures { told_entity result ≡ of_tlv tlv buf.now }
     {
-        let field = tlv.tlv_type_field;
+        label_test(tlv.tlv_type_field)?;
         let l = tlv.lv;
-        let test = label_test(field)
-            .then(width_test(l.len))
-            .then(l.span_test(buf));
-        if let Checked::Refused(r) = test {
-            return EntityIdRead::Refused(r);
-        }
-        let value = value_of(l.value(buf));
-        EntityIdRead::Read(EntityIdTlv {
+        width_test(l.len)?;
+        l.span_test(buf)?;
+        let value = value_of(l.value(buf))?;
+        Ok(EntityIdTlv {
             entity_id: UnsignedByteField {
                 width: l.len,
                 value,
@@ -338,15 +274,19 @@ impl EntityIdTlv {
         })
     }
 
-    // Whether two entity IDs have the same width and the same number.
+    // Whether two entity IDs have the same width and the same number: `==`, by the name that every TLV has for it.
+    #[tactic(auto, unfolding(crate::specs::Rules::same_entity))]
     pub fn same(self, other: EntityIdTlv) -> bool
         ensures { result ≡ same_entity (meaning self) (meaning other) }
     {
-        let a = self.entity_id;
-        let b = other.entity_id;
-        if a.width != b.width {
-            return false;
-        }
-        a.value == b.value
+        self == other
+    }
+}
+
+impl GenericTlv for EntityIdTlv {
+    ghost label = { λ _. entity_label };
+
+    fn tlv_type_field(self) -> TlvTypeField {
+        TlvTypeField::Standard(TlvType::EntityId)
     }
 }

@@ -1,42 +1,34 @@
 -- The laws of `specs/Rules.antt`, a case each: this crate's proofs cite them, and so do those above it. Assumes nothing.
+use Rattle.std.specs.Prelude.{None, Option, Some}
 use mathlib.Core.Path.{◌≡◌, refl, sym, ap, subst, ◌∙◌}
 use Prim.Native.Nat.{ℕ, ◌+◌, ◌-◌, ◌*◌, ◌≤◌, ◌<◌}
 use native.Mathlib.Omega.{arith}
-use mathlib.Core.Bool.{Bool, true, false, not, ◌&&◌}
-use mathlib.Core.Option.{none}
+use mathlib.Core.Bool.{◌&&◌}
 use mathlib.Core.List.{List, [], ◌∷◌, ◌++◌}
 use native.Mathlib.Nat.{add-sub_cancel_left}
 use lib.ListN.{length, take, drop, set, length-append, length-set}
-use lib.Dec.{eqb}
-use borrow.Author.Tests.{eq-eqb, ne_eqb}
-use borrow.Rule.Slice.PartMut.{put_mid, mid_len}
+use borrow.Rule.Slice.PartMut.{put_mid}
 use Rattle.bluebook.specs.Layouts.{lv, lv_if, there}
-use Rattle.refusal.specs.Answer.{Answer, gives, refuses, map_answer, also, Test}
-use Rattle.refusal.proofs.Laws.{gives_same, also_refused, also_passed, also_both, also_mapped, limit_in, limit_passed}
-use Rattle.splice.specs.Laid.{laid, same_bytes}
-use Rattle.splice.specs.Writing.{room_at, Wrote}
-use Rattle.splice.proofs.Laws.{laid_cons, laid_part, laid_behind, laid_none}
-use Rattle.splice.proofs.Writing.{room_for_in, room_for_out, wrote, wrote_not, wrote_refused, wrote_passed, wrote_laid}
+use Rattle.refusal.specs.Answer.{gives, refuses, also}
+use Rattle.refusal.proofs.Laws.{gives_same, also_passed, also_both, limit_in, limit_passed}
+use Rattle.splice.specs.Laid.{laid}
+use Rattle.splice.specs.Writing.{Wrote}
+use Rattle.splice.proofs.Laws.{laid_cons, laid_over, laid_behind, laid_none}
+use Rattle.splice.proofs.Writing.{room_for_in, room_for_out, wrote, wrote_not, wrote_refused, wrote_passed}
 use Rattle.lv.specs.Rules.{part_of, span_test, size_test}
 use Rattle.lv.specs.Rules as lvs
 use Rattle.lv.specs.declared.Lv.{Lv}
 use Rattle.lv.proofs.Laws.{size_test_in, size_test_passed, span_test_in, span_test_passed, Sound, sound, write_test_passed, part_of_in, length-part_of}
 use Rattle.action.specs.Rules.{code_of, due_of}
-use Rattle.filestore_base.specs.Meaning.{Filed, kind_of, is_there, part_if, meaning, parts_of, value_of, filed_tlv}
-use Rattle.filestore_base.specs.Rules.{size_if, span_if, len_if, due_test, parts_test, len_of, length_test, build_test, len_value, len_full, spans_test, write_test, write_base, same_if, same_octet, same_parts, same_base, FitsIf}
-use Rattle.filestore_base.specs.declared.SecondName.{SecondName}
-use Rattle.filestore_base.specs.declared.SecondName.TheVariants.{There, Absent}
+use Rattle.filestore_base.specs.Meaning.{kind_of, is_there, part_if, meaning, parts_of, value_of, filed_tlv}
+use Rattle.filestore_base.specs.Rules.{size_if, span_if, len_if, due_test, parts_test, len_of, length_test, build_test, len_value, len_full, spans_test, write_test, write_base, same_octet, same_parts, same_base, FitsIf}
 use Rattle.filestore_base.specs.declared.FilestoreTlvBase.{FilestoreTlvBase}
 
 -- ---- single tests
 
-pub size_if_passed : (s : SecondName) → gives tt ≡ size_if s → len_if s ≤ 256
-size_if_passed (There l) e = omega (arith, size_test_passed l e)
-size_if_passed Absent e = omega arith
-
--- the answer behind a test that was passed
-pub behind : {a b t : Test} → gives tt ≡ a → t ≡ b → t ≡ also a b
-behind {a} {b} p e = e ∙ sym (also_passed a b p)
+pub size_if_passed : (s : Option Lv) → gives tt ≡ size_if s → len_if s ≤ 256
+size_if_passed (Some l) e = omega (arith, size_test_passed l e)
+size_if_passed None e = omega arith
 
 -- ---- building
 
@@ -62,10 +54,6 @@ module _ (b : FilestoreTlvBase) where
   unfolding parts_test
   parts_passed p = sym (rw (size_test_in b.first_name p.first, ← p.second, ← p.message, ← p.due, limit_in 9 15 b.low_bits p.low))
 
-  pub build_test_refused : (n : ℕ) (vs : List ℕ) → refuses n vs ≡ parts_test b → refuses n vs ≡ build_test b
-  unfolding build_test
-  build_test_refused n vs e = also_refused (parts_test b) (length_test (len_of b)) n vs e
-
   pub build_test_length : gives tt ≡ parts_test b → build_test b ≡ length_test (len_of b)
   unfolding build_test
   build_test_length e = also_passed (parts_test b) (length_test (len_of b)) e
@@ -79,22 +67,10 @@ module _ (b : FilestoreTlvBase) where
   pub build_passed : Parts b → len_of b ≤ 255 → gives tt ≡ build_test b
   build_passed p h = sym (build_test_length (parts_passed p) ∙ limit_in 5 255 (len_of b) h)
 
-  pub len_value_refused : (n : ℕ) (vs : List ℕ) → refuses n vs ≡ build_test b → refuses n vs ≡ len_value b
-  unfolding len_value
-  len_value_refused n vs e = also_refused (build_test b) (gives (len_of b)) n vs e
-
-  pub len_value_passed : gives tt ≡ build_test b → len_value b ≡ gives (len_of b)
-  unfolding len_value
-  len_value_passed e = also_passed (build_test b) (gives (len_of b)) e
-
   -- the whole is two bytes more
   pub len_full_passed : gives tt ≡ build_test b → len_full b ≡ gives (len_of b + 2)
   unfolding len_full
   len_full_passed e = also_passed (build_test b) (gives (len_of b + 2)) e
-
-  pub len_full_is : len_full b ≡ map_answer (λ n. n + 2) (len_value b)
-  unfolding len_full len_value
-  len_full_is = also_mapped (build_test b) (λ n. n + 2) (gives (len_of b))
 
   pub len_value_gives : (n : ℕ) → gives n ≡ len_value b → n ≤ 255
   unfolding len_value
@@ -105,54 +81,50 @@ module _ (b : FilestoreTlvBase) where
 -- ---- spans
 
 -- a second name, or a message, that may be written
-abbrev pub SoundIf : SecondName → List ℕ → Type 0
-SoundIf (There l) src = gives tt ≡ lvs.write_test l src
-SoundIf Absent src = Unit {0}
+abbrev pub SoundIf : Option Lv → List ℕ → Type 0
+SoundIf (Some l) src = gives tt ≡ lvs.write_test l src
+SoundIf None src = Unit {0}
 
-pub sound_if : (s : SecondName) (src : List ℕ) → gives tt ≡ size_if s → gives tt ≡ span_if s src → SoundIf s src
-sound_if (There l) src p q = write_test_passed l src (size_test_passed l p) (span_test_passed l src q)
-sound_if Absent src p q = tt
+pub sound_if : (s : Option Lv) (src : List ℕ) → gives tt ≡ size_if s → gives tt ≡ span_if s src → SoundIf s src
+sound_if (Some l) src p q = write_test_passed l src (size_test_passed l p) (span_test_passed l src q)
+sound_if None src p q = tt
 
 -- it takes the bytes that its length says
-pub length_if : (s : SecondName) (src : List ℕ) → gives tt ≡ span_if s src → length (lv_if (part_if s src)) ≡ len_if s
-length_if (There l) src e = omega (arith, length-part_of l src (span_test_passed l src e))
-length_if Absent src e = refl
+pub length_if : (s : Option Lv) (src : List ℕ) → gives tt ≡ span_if s src → length (lv_if (part_if s src)) ≡ len_if s
+length_if (Some l) src e = omega (arith, length-part_of l src (span_test_passed l src e))
+length_if None src e = refl
 
-pub fits_if : (s : SecondName) (src : List ℕ) (at n : ℕ) → SoundIf s src → at + len_if s ≤ n → FitsIf s src at n
-fits_if (There l) src at n h k = (h, k)
-fits_if Absent src at n h k = tt
+pub fits_if : (s : Option Lv) (src : List ℕ) (at n : ℕ) → SoundIf s src → at + len_if s ≤ n → FitsIf s src at n
+fits_if (Some l) src at n h k = (h, k)
+fits_if None src at n h k = tt
 
 -- what is known of one that is there and fits
-pub fits : (s : SecondName) (l : Lv) (src : List ℕ) (at n : ℕ) → s ≡ There l → FitsIf s src at n → Sound l src × (at + (l.len + 1) ≤ n)
+pub fits : (s : Option Lv) (l : Lv) (src : List ℕ) (at n : ℕ) → s ≡ Some l → FitsIf s src at n → Sound l src × (at + (l.len + 1) ≤ n)
 fits s l src at n e h =
-    let f : FitsIf (There l) src at n = subst (λ (x : SecondName). FitsIf x src at n) e h in
+    let f : FitsIf (Some l) src at n = subst (λ (x : Option Lv). FitsIf x src at n) e h in
     (sound l src f.0, f.1)
 
 -- what is there is laid as an LV, the length byte and then the value, and what is absent changes nothing
-pub put_there : (s : SecondName) (l : Lv) (src old new : List ℕ) (at : ℕ) {told : Answer ℕ} → s ≡ There l → FitsIf s src at (length old)
-    → (let d = set old at l.len in let part = take (at + 1 + l.len - (at + 1)) (drop (at + 1) d) in
-    Wrote 0 (room_at 0 (length part) (take (l.start + l.len - l.start) (drop l.start src))) told part new)
+pub put_there : (s : Option Lv) (l : Lv) (src old new : List ℕ) (at : ℕ) → s ≡ Some l → FitsIf s src at (length old)
+    → new ≡ take (l.start + l.len - l.start) (drop l.start src)
     → put_mid (at + 1) (at + 1 + l.len - (at + 1)) (set old at l.len) new ≡ laid at (lv_if (part_if s src)) old
 put_there s l src old new at e h w =
     let f = fits s l src at (length old) e h in
     let d = set old at l.len in
-    let part = take (at + 1 + l.len - (at + 1)) (drop (at + 1) d) in
-    let v = take (l.start + l.len - l.start) (drop l.start src) in
-    let p : v ≡ part_of l src = rw add-sub_cancel_left (sym (part_of_in l src f.0.inside)) in
-    let n : length v ≡ l.len = ap length p ∙ f.0.size in
-    let k : length part ≡ l.len = mid_len (at + 1) (at + 1 + l.len) d (simp length-set (omega (arith, f.1))) ∙ add-sub_cancel_left _ _ in
-    ap (put_mid (at + 1) (at + 1 + l.len - (at + 1)) d) (wrote_laid 0 v part new (omega arith) w)
-    ∙ laid_part (at + 1) (at + 1 + l.len) v d (omega arith)
-    ∙ laid_cons at l.len v old (omega (arith, f.1))
-    ∙ (λ i. laid at (sym f.0.size i ∷ p i) old)
-    ∙ ap (λ (x : SecondName). laid at (lv_if (part_if x src)) old) (sym e)
+    let p : new ≡ part_of l src = w ∙ rw add-sub_cancel_left (sym (part_of_in l src f.0.inside)) in
+    let n : l.len ≡ length (part_of l src) = sym f.0.size in
+    ap (put_mid (at + 1) (at + 1 + l.len - (at + 1)) d) p
+    ∙ (λ i. put_mid (at + 1) (at + 1 + n i - (at + 1)) (set old at (n i)) (part_of l src))
+    ∙ laid_over (at + 1) (part_of l src) (set old at (length (part_of l src)))
+    ∙ laid_cons at (length (part_of l src)) (part_of l src) old (omega (arith, f.1, n))
+    ∙ ap (λ (x : Option Lv). laid at (lv_if (part_if x src)) old) (sym e)
 
-pub put_absent : (s : SecondName) (src old : List ℕ) (at : ℕ) → s ≡ Absent → old ≡ laid at (lv_if (part_if s src)) old
-put_absent s src old at e = sym (ap (λ (x : SecondName). laid at (lv_if (part_if x src)) old) e ∙ laid_none at old)
+pub put_absent : (s : Option Lv) (src old : List ℕ) (at : ℕ) → s ≡ None → old ≡ laid at (lv_if (part_if s src)) old
+put_absent s src old at e = sym (ap (λ (x : Option Lv). laid at (lv_if (part_if x src)) old) e ∙ laid_none at old)
 
-pub there_if : (s : SecondName) (src : List ℕ) → there (part_if s src) ≡ is_there s
-there_if (There l) src = refl
-there_if Absent src = refl
+pub there_if : (s : Option Lv) (src : List ℕ) → there (part_if s src) ≡ is_there s
+there_if (Some l) src = refl
+there_if None src = refl
 
 pub record Spans (b : FilestoreTlvBase) (bs : List ℕ) : Type 0 where
   pub first : b.first_name.start + b.first_name.len ≤ length bs
@@ -263,44 +235,7 @@ module _ (b : FilestoreTlvBase) (src old : List ℕ) where
 
 -- ---- comparing
 
-pub same_if_absent : (s : SecondName) (bs : List ℕ) → not (is_there s) ≡ same_if none (part_if s bs)
-same_if_absent (There l) bs = refl
-same_if_absent Absent bs = refl
-
-module _ (b c : FilestoreTlvBase) where
-  pub same_octet_on : code_of b.action_code ≡ code_of c.action_code → eqb b.low_bits c.low_bits ≡ same_octet b c
-  unfolding same_octet
-  same_octet_on e = rw (eq-eqb _ _ e)
-
-  pub same_octet_off : (code_of b.action_code ≡ code_of c.action_code → ⊥) → false ≡ same_octet b c
-  unfolding same_octet
-  same_octet_off e = rw (ne_eqb _ _ e)
-
-module _ (m n : Filed) where
-  pub same_parts_first : same_bytes m.first n.first ≡ false → false ≡ same_parts m n
-  unfolding same_parts
-  same_parts_first e = rw e
-
-  pub same_parts_second : same_bytes m.first n.first ≡ true → same_if m.second n.second ≡ false → false ≡ same_parts m n
-  unfolding same_parts
-  same_parts_second e f = rw (e, f)
-
-  pub same_parts_message : same_bytes m.first n.first ≡ true → same_if m.second n.second ≡ true → same_if m.message n.message ≡ same_parts m n
-  unfolding same_parts
-  same_parts_message e f = rw (e, f)
-
-module _ (b : FilestoreTlvBase) (x : List ℕ) (c : FilestoreTlvBase) (y : List ℕ) where
-  pub same_base_refused : (n : ℕ) (vs : List ℕ) → refuses n vs ≡ also (spans_test b x) (spans_test c y) → refuses n vs ≡ same_base b x c y
-  unfolding same_base
-  same_base_refused n vs e = also_refused _ _ n vs e
-
-  module _ (e : gives tt ≡ also (spans_test b x) (spans_test c y)) where
-    pub same_base_is : same_base b x c y ≡ gives (same_octet b c && same_parts (meaning b x) (meaning c y))
-    unfolding same_base
-    same_base_is = also_passed _ _ e
-
-    pub same_base_octet : same_octet b c ≡ false → gives false ≡ same_base b x c y
-    same_base_octet f = ap (λ (t : Bool). gives (t && same_parts (meaning b x) (meaning c y))) (sym f) ∙ sym same_base_is
-
-    pub same_base_parts : (t : Bool) → same_octet b c ≡ true → same_parts (meaning b x) (meaning c y) ≡ t → gives t ≡ same_base b x c y
-    same_base_parts t f g = (λ i. gives (sym f i && sym g i)) ∙ sym same_base_is
+pub same_base_is : (b : FilestoreTlvBase) (x : List ℕ) (c : FilestoreTlvBase) (y : List ℕ) → gives tt ≡ also (spans_test b x) (spans_test c y)
+    → same_base b x c y ≡ gives (same_octet b c && same_parts (meaning b x) (meaning c y))
+unfolding same_base
+same_base_is b x c y e = also_passed _ _ e

@@ -1,11 +1,12 @@
 -- WHAT THE RULES OF BUILDING, WRITING AND COMPARING MEAN, for requests and responses at once: what is written is the layout of what is meant,
 -- exactly where it can be, and `Same` is equality of meanings. Assumes nothing.
+use Rattle.lv.specs.declared.Lv.{Lv}
+use Rattle.std.specs.Prelude.{None, Option, Some}
 use mathlib.Core.Path.{◌≡◌, refl, sym, ap, subst, ◌∙◌}
 use Prim.Native.Nat.{ℕ, ◌+◌, ◌≤◌}
 use native.Mathlib.Omega.{arith}
 use mathlib.Core.Logic.{◌↔◌}
 use mathlib.Core.Bool.{Bool, true, false, ◌&&◌, true≢false, false≢true}
-use mathlib.Core.Option.{Option, some, none}
 use mathlib.Core.List.{List, []}
 use lib.ListN.{length}
 use lib.Dec.{eqb}
@@ -20,8 +21,6 @@ use Rattle.lv.proofs.Laws.{size_test_in}
 use Rattle.action.specs.Rules.{due_of}
 use Rattle.filestore_base.specs.Meaning.{Filed, filed, is_there, meaning, filed_tlv}
 use Rattle.filestore_base.specs.Rules.{size_if, len_if, due_test, len_of, build_test, len_full, spans_test, write_test, write_base, same_if, same_octet, same_parts, same_base}
-use Rattle.filestore_base.specs.declared.SecondName.{SecondName}
-use Rattle.filestore_base.specs.declared.SecondName.TheVariants.{There, Absent}
 use Rattle.filestore_base.specs.declared.FilestoreTlvBase.{FilestoreTlvBase}
 use Rattle.filestore_base.proofs.Laws.{parts, built, build_passed, Spans, spans, spans_passed, writable, write_passed, length-tlv, len_full_passed, same_base_is}
 
@@ -32,21 +31,21 @@ pub record Buildable (b : FilestoreTlvBase) : Type 0 where
   pub low : b.low_bits ≤ 15
   pub size : len_of b ≤ 255
 
-due_there : (d : Bool) (s : SecondName) → gives tt ≡ due_test d s → is_there s ≡ d
-due_there true (There l) e = refl
-due_there true Absent e = absurd (gives_or_refuses tt 6 [] e)
-due_there false (There l) e = absurd (gives_or_refuses tt 8 [] e)
-due_there false Absent e = refl
+due_there : (d : Bool) (s : Option Lv) → gives tt ≡ due_test d s → is_there s ≡ d
+due_there true (Some l) e = refl
+due_there true None e = absurd (gives_or_refuses tt 6 [] e)
+due_there false (Some l) e = absurd (gives_or_refuses tt 8 [] e)
+due_there false None e = refl
 
-there_due : (d : Bool) (s : SecondName) → is_there s ≡ d → gives tt ≡ due_test d s
-there_due true (There l) e = refl
-there_due true Absent e = absurd (false≢true e)
-there_due false (There l) e = absurd (true≢false e)
-there_due false Absent e = refl
+there_due : (d : Bool) (s : Option Lv) → is_there s ≡ d → gives tt ≡ due_test d s
+there_due true (Some l) e = refl
+there_due true None e = absurd (false≢true e)
+there_due false (Some l) e = absurd (true≢false e)
+there_due false None e = refl
 
-small_if : (s : SecondName) → len_if s ≤ 256 → gives tt ≡ size_if s
-small_if (There l) h = sym (size_test_in l (omega arith))
-small_if Absent h = refl
+small_if : (s : Option Lv) → len_if s ≤ 256 → gives tt ≡ size_if s
+small_if (Some l) h = sym (size_test_in l (omega arith))
+small_if None h = refl
 
 pub builds : (b : FilestoreTlvBase) → (gives tt ≡ build_test b) ↔ Buildable b
 builds b = (
@@ -108,13 +107,13 @@ both true q e = (refl, e)
 both false q e = absurd (false≢true e)
 
 same_if_lem : (x y : Option (List ℕ)) → (same_if x y ≡ true) ↔ (x ≡ y)
-same_if_lem (some v) (some w) = (λ e. ap some ((same_equal v w).0 e), λ e. (same_equal v w).1 (some_same v w e))
+same_if_lem (Some v) (Some w) = (λ e. ap Some ((same_equal v w).0 e), λ e. (same_equal v w).1 (some_same v w e))
   where
-    some_same : (v w : List ℕ) → some v ≡ some w → v ≡ w
+    some_same : (v w : List ℕ) → Some v ≡ Some w → v ≡ w
     some_same v w e = cc
-same_if_lem (some v) none = (λ e. absurd (false≢true e), λ e. absurd (true≢false (ap there e)))
-same_if_lem none (some w) = (λ e. absurd (false≢true e), λ e. absurd (false≢true (ap there e)))
-same_if_lem none none = (λ e. refl, λ e. refl)
+same_if_lem (Some v) None = (λ e. absurd (false≢true e), λ e. absurd (true≢false (ap there e)))
+same_if_lem None (Some w) = (λ e. absurd (false≢true e), λ e. absurd (false≢true (ap there e)))
+same_if_lem None None = (λ e. refl, λ e. refl)
 
 module _ (b : FilestoreTlvBase) (x : List ℕ) (c : FilestoreTlvBase) (y : List ℕ) where
   m : Filed

@@ -1,6 +1,5 @@
 -- What a filestore request or response means, whichever of the two it is, and where its parts lie.
-use Rattle.std.specs.Prelude.{ℕ, ◌+◌, ◌*◌, Bool, true, false, List, [], ◌∷◌, ◌++◌, length}
-use Rattle.std.proofs.Math.Option.{Option, some, none}
+use Rattle.std.specs.Prelude.{ℕ, ◌+◌, ◌*◌, Bool, true, false, List, [], ◌∷◌, ◌++◌, length, None, Option, Some}
 use Rattle.bluebook.specs.Layouts.{lv, tlv, lv_if, there}
 use Rattle.lv.specs.Rules.{span, part_of}
 use Rattle.lv.specs.declared.Lv.{Lv}
@@ -9,8 +8,6 @@ use Rattle.tlv.specs.declared.TlvType.{TlvType}
 use Rattle.tlv.specs.declared.TlvType.TheVariants.{FilestoreRequest, FilestoreResponse}
 use Rattle.action.specs.Rules.{code_of, action_at}
 use Rattle.action.specs.declared.FilestoreActionCode.{FilestoreActionCode}
-use Rattle.filestore_base.specs.declared.SecondName.{SecondName}
-use Rattle.filestore_base.specs.declared.SecondName.TheVariants.{There, Absent}
 use Rattle.filestore_base.specs.declared.FilestoreTlvBase.{FilestoreTlvBase}
 
 -- the low bits are a response's status, and a request's spare bits; a message is there in a response
@@ -47,21 +44,21 @@ filed_tlv m = tlv (kind_of (there m.message)) (value_of m)
 
 -- ---- from spans to meaning
 
-abbrev pub base_of : FilestoreActionCode → ℕ → Lv → SecondName → SecondName → FilestoreTlvBase
+abbrev pub base_of : FilestoreActionCode → ℕ → Lv → Option Lv → Option Lv → FilestoreTlvBase
 base_of a l f s m = record { action_code = a; low_bits = l; first_name = f; second_name = s; message = m }
 
-abbrev pub is_there : SecondName → Bool
-is_there (There l) = true
-is_there Absent = false
+abbrev pub is_there : Option Lv → Bool
+is_there (Some l) = true
+is_there None = false
 
-abbrev pub part_if : SecondName → List ℕ → Option (List ℕ)
-part_if (There l) bs = some (part_of l bs)
-part_if Absent bs = none
+abbrev pub part_if : Option Lv → List ℕ → Option (List ℕ)
+part_if (Some l) bs = Some (part_of l bs)
+part_if None bs = None
 
 -- the bytes of a name, none where it is absent
 abbrev pub bytes_if : Option (List ℕ) → List ℕ
-bytes_if (some v) = v
-bytes_if none = []
+bytes_if (Some v) = v
+bytes_if None = []
 
 abbrev pub meaning : FilestoreTlvBase → List ℕ → Filed
 meaning b bs = filed (code_of b.action_code) b.low_bits (part_of b.first_name bs) (part_if b.second_name bs) (part_if b.message bs)
@@ -69,9 +66,9 @@ meaning b bs = filed (code_of b.action_code) b.low_bits (part_of b.first_name bs
 -- ---- from meaning to spans: in a TLV at the front of a buffer the first name's value starts at 4, and each LV stands behind the one before
 
 -- the span of an LV's value, where the LV stands at a place
-abbrev pub second_at : ℕ → Option (List ℕ) → SecondName
-second_at at (some v) = There (span (at + 1) (length v))
-second_at at none = Absent
+abbrev pub second_at : ℕ → Option (List ℕ) → Option Lv
+second_at at (Some v) = Some (span (at + 1) (length v))
+second_at at None = None
 
 abbrev pub placed : Filed → FilestoreTlvBase
 placed m =

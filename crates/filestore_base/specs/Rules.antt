@@ -1,40 +1,38 @@
 -- What building, writing and comparing a filestore request or response answer, for all arguments (document 01, modules 4 and 5).
-use Rattle.std.specs.Prelude.{◌≡◌, ℕ, ◌+◌, ◌≤◌, Bool, true, false, ◌&&◌, List, [], eqb}
-use Rattle.std.proofs.Math.Option.{Option, some, none}
+use Rattle.std.specs.Prelude.{◌≡◌, ℕ, ◌+◌, ◌≤◌, Bool, true, false, ◌&&◌, List, [], eqb, None, Option, Some}
 use Rattle.refusal.specs.Answer.{Answer, gives, refuses, also, Test, limit_test}
 use Rattle.splice.specs.Laid.{same_bytes}
 use Rattle.splice.specs.Writing.{room_for}
 use Rattle.lv.specs.Rules.{span_test, size_test}
 use Rattle.lv.specs.Rules as lvs
+use Rattle.lv.specs.declared.Lv.{Lv}
 use Rattle.action.specs.Rules.{code_of, due_of}
 use Rattle.filestore_base.specs.Meaning.{Filed, filed_tlv, meaning}
-use Rattle.filestore_base.specs.declared.SecondName.{SecondName}
-use Rattle.filestore_base.specs.declared.SecondName.TheVariants.{There, Absent}
 use Rattle.filestore_base.specs.declared.FilestoreTlvBase.{FilestoreTlvBase}
 
 -- ---- a second name, or a message
 
 -- 4 for one over 255 bytes
-abbrev pub size_if : SecondName → Test
-size_if (There l) = size_test l
-size_if Absent = gives tt
+abbrev pub size_if : Option Lv → Test
+size_if (Some l) = size_test l
+size_if None = gives tt
 
 -- 15 for one whose span passes the end
-abbrev pub span_if : SecondName → List ℕ → Test
-span_if (There l) bs = span_test l bs
-span_if Absent bs = gives tt
+abbrev pub span_if : Option Lv → List ℕ → Test
+span_if (Some l) bs = span_test l bs
+span_if None bs = gives tt
 
 -- the bytes that it takes as an LV
-abbrev pub len_if : SecondName → ℕ
-len_if (There l) = l.len + 1
-len_if Absent = 0
+abbrev pub len_if : Option Lv → ℕ
+len_if (Some l) = l.len + 1
+len_if None = 0
 
 -- 6 for a second name missing, 8 for one that is not due
-abbrev pub due_test : Bool → SecondName → Test
-due_test true (There l) = gives tt
-due_test true Absent = refuses 6 []
-due_test false (There l) = refuses 8 []
-due_test false Absent = gives tt
+abbrev pub due_test : Bool → Option Lv → Test
+due_test true (Some l) = gives tt
+due_test true None = refuses 6 []
+due_test false (Some l) = refuses 8 []
+due_test false None = gives tt
 
 -- ---- BUILDING, in order: 4 (first name, second, message), 6 or 8, 9, then 5 with the whole length of the value
 
@@ -82,10 +80,10 @@ write_base b src n = also (write_test b src) (room_for n (filed_tlv (meaning b s
 -- ---- COMPARING: 15 for the first, then for the second; then whether all that they mean is the same
 
 abbrev pub same_if : Option (List ℕ) → Option (List ℕ) → Bool
-same_if (some v) (some w) = same_bytes v w
-same_if (some v) none = false
-same_if none (some w) = false
-same_if none none = true
+same_if (Some v) (Some w) = same_bytes v w
+same_if (Some v) None = false
+same_if None (Some w) = false
+same_if None None = true
 
 -- action and low bits
 unfoldable pub same_octet : FilestoreTlvBase → FilestoreTlvBase → Bool
@@ -99,6 +97,6 @@ unfoldable pub same_base : FilestoreTlvBase → List ℕ → FilestoreTlvBase �
 same_base b x c y = also (also (spans_test b x) (spans_test c y)) (gives (same_octet b c && same_parts (meaning b x) (meaning c y)))
 
 -- ---- for private functions: a second name, or a message, may be written and has room, or it is absent
-abbrev pub FitsIf : SecondName → List ℕ → ℕ → ℕ → Type 0
-FitsIf (There l) src at n = (gives tt ≡ lvs.write_test l src) × (at + (l.len + 1) ≤ n)
-FitsIf Absent src at n = Unit {0}
+abbrev pub FitsIf : Option Lv → List ℕ → ℕ → ℕ → Type 0
+FitsIf (Some l) src at n = (gives tt ≡ lvs.write_test l src) × (at + (l.len + 1) ≤ n)
+FitsIf None src at n = Unit {0}

@@ -1,97 +1,72 @@
 -- The laws of the readers inside (`specs/Inner.antt`), and how the readers of `specs/Rules.antt` are made of them. Assumes nothing.
+use Rattle.std.specs.Prelude.{None, Option, Some}
 use mathlib.Core.Path.{◌≡◌, refl, sym, ap, ◌∙◌}
 use Prim.Native.Nat.{ℕ, zero, suc, ◌+◌, ◌-◌, ◌/◌, ◌%◌, ◌≤◌, ◌<◌}
 use native.Mathlib.Omega.{arith}
-use mathlib.Core.Bool.{Bool, true, false, true≢false, false≢true}
-use mathlib.Core.Option.{Option, some, none}
+use mathlib.Core.Bool.{Bool, true, false}
 use mathlib.Core.List.{List, [], ◌∷◌}
-use lib.ListN.{length, drop, get_or}
-use lib.Seq.{slice, slice-cons, slice_empty, length-slice}
+use lib.ListN.{length, take, drop, get_or, drop_of_length-le}
+use Rattle.std.proofs.lemmas.List.{length-take}
+use lib.Seq.{slice, slice-cons, slice_empty, length-slice, length-take-le, take-length}
 use lib.Dec.{ltb}
 use borrow.Author.Tests.{lt-ltb, le-ltb, ltb-true, ltb-false, ne_eqb}
 use Rattle.bluebook.specs.Layouts.{actions, second_present, lv, lv_if}
-use Rattle.refusal.specs.Answer.{Answer, gives, refuses, short_at, pick, map_answer, and_then, also, Test}
+use Rattle.refusal.specs.Answer.{Answer, gives, refuses, short_at, map_answer, and_then, also, Test}
 use Rattle.refusal.specs.Reader.{Took, took, Reader, Exactly}
 use Rattle.refusal.proofs.Laws.{mapped_by, map_answer_refused, map_answer_map_answer}
 use Rattle.refusal.proofs.Readers.{rest_at}
 use Rattle.lv.specs.Rules.{span, take_lv, read_lv_at}
 use Rattle.lv.specs.declared.Lv.{Lv}
-use Rattle.lv.proofs.Laws.{read_lv_at_in, read_lv_at_none}
+use Rattle.lv.proofs.Laws.{read_lv_at_in}
 use Rattle.lv.proofs.Theorems.{exactly_lv}
 use Rattle.tlv.specs.Rules.{take_of, len_of_type}
 use Rattle.tlv.proofs.Theorems as tlvs
 use Rattle.action.specs.Rules.{code_of, action_at, action_of, due_of}
-use Rattle.action.specs.Told.{told_action}
 use Rattle.action.specs.declared.FilestoreActionCode.{FilestoreActionCode}
-use Rattle.action.specs.declared.ActionCodeRead.{ActionCodeRead}
 use Rattle.action.proofs.Laws.{code_back, action_of_known, action_of_none}
-use Rattle.filestore_base.specs.Meaning.{Filed, filed, kind_of, base_of, is_there, second_at, end_of}
-use Rattle.filestore_base.specs.declared.SecondName.{SecondName}
-use Rattle.filestore_base.specs.declared.SecondName.TheVariants.{There, Absent}
+use Rattle.filestore_base.specs.Meaning.{Filed, filed, kind_of, base_of, second_at, end_of}
 use Rattle.filestore_base.specs.declared.FilestoreTlvBase.{FilestoreTlvBase}
 use Rattle.filestore_reader.specs.Rules.{take_octet, take_if, take_second, take_value, take_filed, found_of, found, read_base, status_listed, listed_test, strict_test, strict_base}
-use Rattle.filestore_reader.specs.Inner.{read_if_at, read_second_at, left_before, end_if, with_message, read_message_at, read_behind, read_names, read_value}
+use Rattle.filestore_reader.specs.Inner.{read_if_at, read_second_at, end_if, with_message, read_message_at, read_behind, read_names, read_value}
 use Rattle.filestore_reader.specs.declared.Found.{Found}
 use Rattle.filestore_reader.proofs.Exact.{exactly_if, exactly_second, exactly_filed}
 
 -- ---- an LV that is there or not, at a place
 
 module _ (bs : List ℕ) (at end : ℕ) where
-  pub read_if_at_not : read_if_at bs at end false ≡ gives Absent
+  pub read_if_at_not : read_if_at bs at end false ≡ gives None
   unfolding read_if_at take_if
   read_if_at_not = refl
 
-  pub read_if_at_lv : at ≤ end → end ≤ length bs → read_if_at bs at end true ≡ map_answer There (read_lv_at bs at end)
+  pub read_if_at_lv : at ≤ end → end ≤ length bs → read_if_at bs at end true ≡ map_answer Some (read_lv_at bs at end)
   unfolding read_if_at take_if
   read_if_at_lv h k =
-      map_answer_map_answer (λ t. second_at at t.got) (λ t. took (some t.got) t.rest) (take_lv at (slice at end bs))
-      ∙ sym (map_answer_map_answer There (λ t. span (at + 1) (length t.got)) (take_lv at (slice at end bs)))
-      ∙ ap (map_answer There) (sym (read_lv_at_in bs at end k h))
+      map_answer_map_answer (λ t. second_at at t.got) (λ t. took (Some t.got) t.rest) (take_lv at (slice at end bs))
+      ∙ sym (map_answer_map_answer Some (λ t. span (at + 1) (length t.got)) (take_lv at (slice at end bs)))
+      ∙ ap (map_answer Some) (sym (read_lv_at_in bs at end k h))
 
-  pub read_if_at_none : at ≤ end → end ≤ length bs → end ≤ at → read_if_at bs at end true ≡ short_at at 0 1
-  read_if_at_none h k j =
-      let z : end - at ≡ 0 = omega arith in
-      read_if_at_lv h k ∙ ap (map_answer There) (read_lv_at_none bs at end k h (omega arith) ∙ ap (λ (n : ℕ). short_at at n 1) z)
+  -- where nothing is left
+  nothing : end ≤ at → slice at end bs ≡ []
+  nothing h = drop_of_length-le (take end bs) {i = at} (omega (arith, length-take end bs))
 
-  pub read_second_at_not : read_second_at bs at end false ≡ gives Absent
+  pub read_if_at_none : end ≤ at → read_if_at bs at end true ≡ short_at at 0 1
+  unfolding read_if_at take_if take_lv
+  read_if_at_none h = rw (nothing h)
+
+  pub read_second_at_not : read_second_at bs at end false ≡ gives None
   unfolding read_second_at take_second take_if
   read_second_at_not = refl
 
-  pub read_second_at_none : at ≡ end → read_second_at bs at end true ≡ refuses 6 []
+  pub read_second_at_none : end ≤ at → read_second_at bs at end true ≡ refuses 6 []
   unfolding read_second_at take_second
-  read_second_at_none e = rw (e, slice_empty end bs)
+  read_second_at_none h = rw (nothing h)
 
   pub read_second_at_lv : at < end → end ≤ length bs → read_second_at bs at end true ≡ read_if_at bs at end true
   unfolding read_second_at read_if_at take_second
   read_second_at_lv h k = rw (slice-cons at end bs 0 h k)
 
--- what is left
-pub left_none : (at end : ℕ) → left_before at end ≡ Absent → end ≤ at
-unfolding left_before
-left_none at end e = go (ltb at end) refl e
-  where
-    go : (t : Bool) → ltb at end ≡ t → pick t (There (span at (end - at))) Absent ≡ Absent → end ≤ at
-    go true p e = absurd (true≢false (ap is_there e))
-    go false p e = ltb-false at end p
-
-pub left_there : (at end : ℕ) (l : Lv) → left_before at end ≡ There l → (at < end) × (l.start ≡ at)
-unfolding left_before
-left_there at end l e = go (ltb at end) refl e
-  where
-    go : (t : Bool) → ltb at end ≡ t → pick t (There (span at (end - at))) Absent ≡ There l → (at < end) × (l.start ≡ at)
-    go true p e = let q : span at (end - at) ≡ l = cc in (ltb-true at end p, sym (ap (λ (x : Lv). x.start) q))
-    go false p e = absurd (false≢true (ap is_there e))
-
-pub left_before_some : (at end : ℕ) → at < end → left_before at end ≡ There (span at (end - at))
-unfolding left_before
-left_before_some at end h = simp (lt-ltb at end h)
-
-pub left_before_none : (at end : ℕ) → end ≤ at → left_before at end ≡ Absent
-unfolding left_before
-left_before_none at end h = simp (le-ltb at end h)
-
 -- what is known where a reader of an LV that may be absent has found s at a place
-pub record Behind (read : Reader (Option (List ℕ))) (bs : List ℕ) (at end : ℕ) (s : SecondName) : Type 0 where
+pub record Behind (read : Reader (Option (List ℕ))) (bs : List ℕ) (at end : ℕ) (s : Option Lv) : Type 0 where
   pub value : Option (List ℕ)
   pub is : s ≡ second_at at value
   pub place : end_if at s ≡ at + length (lv_if value)
@@ -99,10 +74,10 @@ pub record Behind (read : Reader (Option (List ℕ))) (bs : List ℕ) (at end : 
   pub taken : read (slice at end bs) ≡ gives (took value (slice (end_if at s) end bs))
 
 place_of_lem : (at : ℕ) (v : Option (List ℕ)) → end_if at (second_at at v) ≡ at + length (lv_if v)
-place_of_lem at (some v) = omega arith
-place_of_lem at none = omega arith
+place_of_lem at (Some v) = omega arith
+place_of_lem at None = omega arith
 
-pub behind : {read : Reader (Option (List ℕ))} {ok : Option (List ℕ) → Type 0} → Exactly read ok lv_if → (bs : List ℕ) (at end : ℕ) (s : SecondName) → at ≤ end → end ≤ length bs
+pub behind : {read : Reader (Option (List ℕ))} {ok : Option (List ℕ) → Type 0} → Exactly read ok lv_if → (bs : List ℕ) (at end : ℕ) (s : Option Lv) → at ≤ end → end ≤ length bs
     → map_answer (λ t. second_at at t.got) (read (slice at end bs)) ≡ gives s → Behind read bs at end s
 behind {read} tie bs at end s h k e =
     let m = mapped_by (λ t. second_at at t.got) (read (slice at end bs)) s e in
@@ -118,11 +93,11 @@ behind {read} tie bs at end s h k e =
     }
 
 module _ (bs : List ℕ) (at end : ℕ) (h : at ≤ end) (k : end ≤ length bs) where
-  pub behind_if : (d : Bool) (s : SecondName) → gives s ≡ read_if_at bs at end d → Behind (take_if d at) bs at end s
+  pub behind_if : (d : Bool) (s : Option Lv) → gives s ≡ read_if_at bs at end d → Behind (take_if d at) bs at end s
   unfolding read_if_at
   behind_if d s e = behind (exactly_if d at) bs at end s h k (sym e)
 
-  pub behind_second : (d : Bool) (s : SecondName) → gives s ≡ read_second_at bs at end d → Behind (take_second d at) bs at end s
+  pub behind_second : (d : Bool) (s : Option Lv) → gives s ≡ read_second_at bs at end d → Behind (take_second d at) bs at end s
   unfolding read_second_at
   behind_second d s e = behind (exactly_second d at) bs at end s h k (sym e)
 
@@ -132,7 +107,7 @@ module _ (bs : List ℕ) (at end : ℕ) (h : at ≤ end) (k : end ≤ length bs)
   unfolding read_if_at read_message_at
   read_message_at_refused names d n vs e = ap (map_answer _) (map_answer_refused (λ t. second_at at t.got) (take_if d at (slice at end bs)) n vs e)
 
-  pub read_message_at_found : (names : FilestoreTlvBase) (d : Bool) (s : SecondName) → gives s ≡ read_if_at bs at end d
+  pub read_message_at_found : (names : FilestoreTlvBase) (d : Bool) (s : Option Lv) → gives s ≡ read_if_at bs at end d
       → gives (found_of (with_message names s) (end - end_if at s)) ≡ read_message_at bs at end names d
   unfolding read_message_at
   read_message_at_found names d s e =
@@ -154,8 +129,8 @@ module _ (bs : List ℕ) (end : ℕ) (a : FilestoreActionCode) (low : ℕ) (f : 
       ap (λ (x : Answer (Took (Option (List ℕ)))). and_then x (λ s. map_answer (with_second s.got) (take_if d (end_of f + length (lv_if s.got)) s.rest)))
       (map_answer_refused (λ t. second_at (end_of f) t.got) (take_second (due_of a) (end_of f) (slice (end_of f) end bs)) n vs e)
 
-  pub read_behind_second : (s : SecondName) → gives s ≡ read_second_at bs (end_of f) end (due_of a)
-      → read_message_at bs (end_if (end_of f) s) end (base_of a low f s Absent) d ≡ read_behind bs end a low f d
+  pub read_behind_second : (s : Option Lv) → gives s ≡ read_second_at bs (end_of f) end (due_of a)
+      → read_message_at bs (end_if (end_of f) s) end (base_of a low f s None) d ≡ read_behind bs end a low f d
   unfolding read_message_at read_behind
   read_behind_second s e =
       let b = behind_second bs (end_of f) end h k (due_of a) s e in
@@ -167,13 +142,6 @@ module _ (bs : List ℕ) (end : ℕ) (a : FilestoreActionCode) (low : ℕ) (f : 
 pub read_names_is : (bs : List ℕ) (end : ℕ) (a : FilestoreActionCode) (low : ℕ) (d : Bool) → and_then (read_lv_at bs 3 end) (λ f. read_behind bs end a low f d) ≡ read_names bs end a low d
 unfolding read_names
 read_names_is bs end a low d = refl
-
--- no first name, whatever the action
-pub read_names_none : (bs : List ℕ) (end : ℕ) (a : FilestoreActionCode) (low : ℕ) (d : Bool) → end ≡ 3 → end ≤ length bs → read_names bs end a low d ≡ short_at 3 0 1
-read_names_none bs end a low d e k =
-    let z : end - 3 ≡ 0 = omega arith in
-    sym (read_names_is bs end a low d)
-    ∙ ap (λ (y : Answer Lv). and_then y (λ f. read_behind bs end a low f d)) (read_lv_at_none bs 3 end k (omega arith) (omega arith) ∙ ap (λ (n : ℕ). short_at 3 n 1) z)
 
 -- ---- the value
 
@@ -225,16 +193,12 @@ module _ (bs : List ℕ) (end : ℕ) (d : Bool) where
     none_such q = ap (λ (l : List ℕ). map_answer found (take_value d l)) (slice-cons 2 end bs 0 h k) ∙ simp (le-ltb (o / 16) (length actions) q)
 
     -- what the first byte's action answers, and then the names
-    read_value_octet : read_value bs end d ≡ and_then (action_of (o / 16)) (λ a. read_names bs end a (o % 16) d)
+    pub read_value_octet : read_value bs end d ≡ and_then (action_of (o / 16)) (λ a. read_names bs end a (o % 16) d)
     read_value_octet = go (ltb (o / 16) (length actions)) refl
       where
         go : (t : Bool) → ltb (o / 16) (length actions) ≡ t → read_value bs end d ≡ and_then (action_of (o / 16)) (λ a. read_names bs end a (o % 16) d)
         go true p = let q = ltb-true _ _ p in known q ∙ sym (ap (λ (x : Answer FilestoreActionCode). and_then x (λ a. read_names bs end a (o % 16) d)) (action_of_known (o / 16) q))
         go false p = let q = ltb-false _ _ p in none_such q ∙ sym (ap (λ (x : Answer FilestoreActionCode). and_then x (λ a. read_names bs end a (o % 16) d)) (action_of_none (o / 16) q))
-
-    -- the same, of what the action's number told, by the arm x that it led to
-    pub read_value_told : {r x : ActionCodeRead} → told_action r ≡ action_of (o / 16) → r ≡ x → and_then (told_action x) (λ a. read_names bs end a (o % 16) d) ≡ read_value bs end d
-    read_value_told e f = ap (λ (y : Answer FilestoreActionCode). and_then y (λ a. read_names bs end a (o % 16) d)) (sym (ap told_action f) ∙ e) ∙ sym read_value_octet
 
 -- ---- the whole TLV
 
@@ -243,10 +207,11 @@ module _ (d : Bool) (bs : List ℕ) where
   unfolding read_base len_of_type
   read_base_refused n vs e = rw (← map_answer_refused (λ (v : Took (List ℕ)). 2 + length v.got) (take_of (kind_of d) bs) n vs e)
 
-  pub read_base_value : (end : ℕ) → gives end ≡ len_of_type (kind_of d) bs → read_value bs end d ≡ read_base d bs
+  -- of its bytes alone
+  pub read_base_value : (end : ℕ) → gives end ≡ len_of_type (kind_of d) bs → read_value (take end bs) (length (take end bs)) d ≡ read_base d bs
   unfolding read_base read_value
   read_base_value end e =
-      rw (tlvs.found (kind_of d) bs end (sym e)).taken
+      rw (take-length, (tlvs.found (kind_of d) bs end (sym e)).taken)
       (sym (map_answer_map_answer (λ (t : Took (Took Filed)). found t.got) (λ t. took t (drop end bs)) (take_value d (slice 2 end bs))))
 
 -- ---- strict reading

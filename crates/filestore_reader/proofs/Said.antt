@@ -1,5 +1,6 @@
 -- What both a request and a response need, so that each can say in the standard's words what was found (`Exact.antt`, `Theorems.antt`), and that
 -- what may be written from octets is what the standard allows. Assumes nothing.
+use Rattle.std.specs.Prelude.{None, Option, Some}
 use mathlib.Core.Path.{◌≡◌, refl, sym, ap, subst, ◌∙◌}
 use Prim.Native.Nat.{ℕ, zero, suc, ◌+◌, ◌*◌, ◌≤◌, ◌<◌}
 use native.Mathlib.Omega.{arith}
@@ -19,8 +20,6 @@ use Rattle.lv.proofs.Theorems.{octets_part}
 use Rattle.action.specs.Rules.{code_of}
 use Rattle.filestore_base.specs.Meaning.{Filed, is_there, part_if, value_of, filed_tlv, meaning}
 use Rattle.filestore_base.specs.Rules.{span_if, write_test, write_base}
-use Rattle.filestore_base.specs.declared.SecondName.{SecondName}
-use Rattle.filestore_base.specs.declared.SecondName.TheVariants.{There, Absent}
 use Rattle.filestore_base.specs.declared.FilestoreTlvBase.{FilestoreTlvBase}
 use Rattle.filestore_base.proofs.Laws.{length-value, writable}
 use Rattle.filestore_base.proofs.Theorems.{builds}
@@ -79,9 +78,9 @@ module _ (src : List ℕ) (o : Octets src) where
   octets_lv : (l : Lv) → l.start + l.len ≤ length src → length (part_of l src) ≤ 255 → Octets (lv (part_of l src))
   octets_lv l h n = octets_behind (length (part_of l src)) (part_of l src) (omega arith) (subst Octets (sym (part_of_in l src h)) (octets_part src l.start l.len o))
 
-  octets_if : (s : SecondName) → gives tt ≡ span_if s src → length (lv_if (part_if s src)) ≤ 256 → Octets (lv_if (part_if s src))
-  octets_if (There l) e n = octets_lv l (span_test_passed l src e) (omega arith)
-  octets_if Absent e n = λ k. omega arith
+  octets_if : (s : Option Lv) → gives tt ≡ span_if s src → length (lv_if (part_if s src)) ≤ 256 → Octets (lv_if (part_if s src))
+  octets_if (Some l) e n = octets_lv l (span_test_passed l src e) (omega arith)
+  octets_if None e n = λ k. omega arith
 
   pub allowed : (b : FilestoreTlvBase) → gives tt ≡ write_test b src → FiledOk (is_there b.message) (meaning b src) × Value (value_of (meaning b src))
   allowed b e =

@@ -1,10 +1,10 @@
 -- WHAT READING MEANS, for requests and responses at once: what is found selects the meaning whose layout stands there, may be written again, and
 -- what was written is found again; and where reading ran short. Assumes nothing.
+use Rattle.std.specs.Prelude.{None, Option, Some}
 use mathlib.Core.Path.{◌≡◌, refl, sym, ap, subst, ◌∙◌}
 use Prim.Native.Nat.{ℕ, ◌+◌, ◌*◌, ◌/◌, ◌≤◌, ◌<◌}
 use native.Mathlib.Omega.{arith}
 use mathlib.Core.Bool.{Bool, true, false}
-use mathlib.Core.Option.{Option, some, none}
 use mathlib.Core.List.{List, [], ◌∷◌, ◌++◌, append_assoc, append-nil}
 use lib.ListN.{length, drop, get_or, length-append}
 use lib.Dec.{ltb}
@@ -12,7 +12,6 @@ use Rattle.bluebook.specs.Layouts.{Octets, actions, second_present, there, lv, l
 use Rattle.refusal.specs.Answer.{Answer, gives, map_answer, and_then, RefusedBy, short_at, ShortBy, limit_test}
 use Rattle.refusal.specs.Reader.{Took, took, Exactly}
 use Rattle.refusal.proofs.Laws.{also_both, pick_passed, refused_pick, refused_map, refused_then, short_here, short_given, short_other, short_pick, short_map, short_then, short_test, short_limit, short_so, limit_passed, mapped_by, map_answer_map_answer}
-use Rattle.refusal.proofs.Once.{refusal_of_refused, untold, one_told}
 use Rattle.refusal.proofs.Readers.{exactly_tested}
 use Rattle.splice.specs.Writing.{Wrote}
 use Rattle.splice.proofs.Writing.{left_by}
@@ -32,10 +31,7 @@ use Rattle.filestore_base.specs.declared.FilestoreTlvBase.{FilestoreTlvBase}
 use Rattle.filestore_base.proofs.Laws.{Spans, there_if, length-value, writable, write_passed}
 use Rattle.filestore_base.proofs.Theorems.{Buildable, builds, same_means}
 use Rattle.filestore_reader.specs.Rules.{take_octet, take_if, take_second, take_value, take_filed, take_strict, found_of, found, read_base, low_bits_test, left_test, status_listed, listed_test, strict_test, strict_base}
-use Rattle.filestore_reader.specs.Told.{told_found}
 use Rattle.filestore_reader.specs.declared.Found.{Found}
-use Rattle.filestore_reader.specs.declared.FoundRead.{FoundRead}
-use Rattle.filestore_reader.specs.declared.FoundRead.TheVariants.{Read, Refused}
 use Rattle.filestore_reader.proofs.Exact.{FiledOk, exactly_octet, exactly_second, exactly_filed}
 
 -- a request or response, with what is left of its value and what stands behind it
@@ -45,15 +41,15 @@ stands d m left rest = tlv (kind_of d) (value_of m ++ left) ++ rest
 -- ---- SPANS: where the parts of a layout lie, and that they select them
 
 part_if_lem : (p : List ℕ) (s : Option (List ℕ)) (rest : List ℕ) (at : ℕ) → length p ≡ at → part_if (second_at at s) (p ++ (lv_if s ++ rest)) ≡ s
-part_if_lem p none rest at e = refl
-part_if_lem p (some v) rest at e =
-    ap some
+part_if_lem p None rest at e = refl
+part_if_lem p (Some v) rest at e =
+    ap Some
     (ap (part_of (span (at + 1) (length v))) (sym (append_assoc p (length v ∷ []) (v ++ rest)))
     ∙ selects (p ++ (length v ∷ [])) v rest (at + 1) (length-append p (length v ∷ []) ∙ omega arith))
 
 span_if_lem : (p : List ℕ) (s : Option (List ℕ)) (rest : List ℕ) (at : ℕ) → length p ≡ at → gives tt ≡ span_if (second_at at s) (p ++ (lv_if s ++ rest))
-span_if_lem p none rest at e = refl
-span_if_lem p (some v) rest at e =
+span_if_lem p None rest at e = refl
+span_if_lem p (Some v) rest at e =
     sym (span_test_in (span (at + 1) (length v)) (p ++ (lv v ++ rest)) (omega (arith, length-append p (lv v ++ rest), length-append v rest)))
 
 module _ (d : Bool) (m : Filed) (left rest : List ℕ) where
@@ -339,12 +335,3 @@ strict_runs_short response bs =
     short_map _ (take_strict response bs)
     (short_then (take_filed response bs) _ (filed_runs_short response bs) (λ t _.
     short_then (strict_test response t.got.got.action t.got.got.low (length t.got.rest)) _ (test_not_short response _ _ _) (λ _ _. short_given _)))
-
--- ---- ONE ANSWER: of `from_bytes` and `from_bytes_strict`
-
-pub one_found : (x : Answer Found) (a b : FoundRead) → told_found a ≡ x → told_found b ≡ x → a ≡ b
-one_found = one_told told_found Read Refused back
-  where
-    back : (a : FoundRead) → untold Read Refused (told_found a) ≡ a
-    back (Read f) = refl
-    back (Refused r) = ap Refused (refusal_of_refused r)

@@ -1,36 +1,31 @@
--- What the private functions of this crate answer. They read as Rules.antt says, but inside a buffer: the bytes from a place up to the place `end`.
-use Rattle.std.specs.Prelude.{ℕ, ◌+◌, ◌-◌, Bool, List, length, ltb}
+-- What the private functions of this crate answer, and what is left to read between their steps. They read as Rules.antt says, but inside a buffer:
+-- the bytes from a place up to the place `end`.
+use Rattle.std.specs.Prelude.{ℕ, ◌+◌, Bool, List, length, None, Option, Some}
 use Rattle.std.proofs.Math.Seq.{slice}
 use Rattle.bluebook.specs.Layouts.{lv_if}
-use Rattle.refusal.specs.Answer.{Answer, pick, map_answer, and_then}
-use Rattle.lv.specs.Rules.{span, read_lv_at}
+use Rattle.refusal.specs.Answer.{Answer, map_answer, and_then}
+use Rattle.lv.specs.Rules.{read_lv_at}
 use Rattle.lv.specs.declared.Lv.{Lv}
 use Rattle.action.specs.Rules.{due_of}
 use Rattle.action.specs.declared.FilestoreActionCode.{FilestoreActionCode}
 use Rattle.filestore_base.specs.Meaning.{base_of, second_at, end_of}
-use Rattle.filestore_base.specs.declared.SecondName.{SecondName}
-use Rattle.filestore_base.specs.declared.SecondName.TheVariants.{There, Absent}
 use Rattle.filestore_base.specs.declared.FilestoreTlvBase.{FilestoreTlvBase}
 use Rattle.filestore_reader.specs.Rules.{take_if, take_second, take_value, found, found_of}
 use Rattle.filestore_reader.specs.declared.Found.{Found}
 
-unfoldable pub read_if_at : List ℕ → ℕ → ℕ → Bool → Answer SecondName
+unfoldable pub read_if_at : List ℕ → ℕ → ℕ → Bool → Answer (Option Lv)
 read_if_at bs at end wanted = map_answer (λ t. second_at at t.got) (take_if wanted at (slice at end bs))
 
-unfoldable pub read_second_at : List ℕ → ℕ → ℕ → Bool → Answer SecondName
+unfoldable pub read_second_at : List ℕ → ℕ → ℕ → Bool → Answer (Option Lv)
 read_second_at bs at end due = map_answer (λ t. second_at at t.got) (take_second due at (slice at end bs))
 
--- what is left, if anything is
-unfoldable pub left_before : ℕ → ℕ → SecondName
-left_before at end = pick (ltb at end) (There (span at (end - at))) Absent
-
 -- the place behind what stands at the place `at`, which is `at` where it is absent
-abbrev pub end_if : ℕ → SecondName → ℕ
-end_if at (There l) = end_of l
-end_if at Absent = at
+abbrev pub end_if : ℕ → Option Lv → ℕ
+end_if at (Some l) = end_of l
+end_if at None = at
 
 -- the names, with the message behind them
-abbrev pub with_message : FilestoreTlvBase → SecondName → FilestoreTlvBase
+abbrev pub with_message : FilestoreTlvBase → Option Lv → FilestoreTlvBase
 with_message b m = base_of b.action_code b.low_bits b.first_name b.second_name m
 
 unfoldable pub read_message_at : List ℕ → ℕ → ℕ → FilestoreTlvBase → Bool → Answer Found

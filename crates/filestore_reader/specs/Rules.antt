@@ -1,6 +1,5 @@
 -- What reading a filestore request or response answers, for all bytes: document 01's list, in its order, and strict reading behind it.
-use Rattle.std.specs.Prelude.{ℕ, ◌+◌, ◌/◌, ◌%◌, Bool, true, false, ◌||◌, List, [], ◌∷◌, length, ltb, eqb}
-use Rattle.std.proofs.Math.Option.{Option, some, none}
+use Rattle.std.specs.Prelude.{ℕ, ◌+◌, ◌/◌, ◌%◌, Bool, true, false, ◌||◌, List, [], ◌∷◌, length, ltb, eqb, None, Option, Some}
 use Rattle.bluebook.specs.Layouts.{actions, second_present, lv_if}
 use Rattle.refusal.specs.Answer.{Answer, gives, refuses, short_at, pick, map_answer, and_then, also, Test, limit_test}
 use Rattle.refusal.specs.Reader.{Reader, Took, took, inside, tested}
@@ -26,8 +25,8 @@ take_octet (o ∷ bs) = pick (ltb (o / 16) (length actions)) (gives (took (octet
 
 -- an LV at a place, where one is wanted
 unfoldable pub take_if : Bool → ℕ → Reader (Option (List ℕ))
-take_if false at bs = gives (took none bs)
-take_if true at bs = map_answer (λ t. took (some t.got) t.rest) (take_lv at bs)
+take_if false at bs = gives (took None bs)
+take_if true at bs = map_answer (λ t. took (Some t.got) t.rest) (take_lv at bs)
 
 -- where a second name is due and nothing is left, 6; second name as LV
 unfoldable pub take_second : Bool → ℕ → Reader (Option (List ℕ))

@@ -1,18 +1,18 @@
 -- WHAT THE RULES OF RESPONSES MEAN, against the standard's layout. What responses share with requests is proved once, in filestore_base and
 -- filestore_reader; here it is said of responses in the standard's own terms. Assumes nothing.
+use Rattle.lv.specs.declared.Lv.{Lv}
+use Rattle.std.specs.Prelude.{None, Option, Some}
 use mathlib.Core.Path.{◌≡◌, refl, sym, ap, subst, ◌∙◌}
 use Prim.Native.Nat.{ℕ, ◌+◌, ◌≤◌, ◌<◌}
 use native.Mathlib.Omega.{arith}
 use mathlib.Core.Logic.{◌↔◌}
 use mathlib.Core.Bool.{true, false≢true}
-use mathlib.Core.Option.{Option, some, none}
 use mathlib.Core.List.{List, [], ◌++◌, append-nil}
 use lib.ListN.{length, drop}
 use Rattle.bluebook.specs.Layouts.{Octets, Named, there, Response, response, response_value, Responded, tlv, filestore_response}
-use Rattle.refusal.specs.Answer.{Answer, gives, map_answer, ShortBy}
+use Rattle.refusal.specs.Answer.{gives, map_answer, ShortBy}
 use Rattle.refusal.specs.Reader.{Took, took, Exactly, Begins}
 use Rattle.refusal.proofs.Laws.{mapped_by, map_answer_map_answer, short_map}
-use Rattle.refusal.proofs.Once.{refusal_of_refused, untold, one_told}
 use Rattle.refusal.proofs.Readers.{answers, exactly_reworded, exactly_as}
 use Rattle.splice.specs.Writing.{Wrote}
 use Rattle.lv.specs.Rules.{span, part_of}
@@ -20,8 +20,6 @@ use Rattle.lv.proofs.Laws.{part_of_in}
 use Rattle.action.specs.Rules.{code_of}
 use Rattle.tlv.specs.Short.{ShortTlv}
 use Rattle.filestore_base.specs.Meaning.{Filed, filed, base_of, bytes_if, is_there, part_if, second_at, meaning, filed_tlv}
-use Rattle.filestore_base.specs.declared.SecondName.{SecondName}
-use Rattle.filestore_base.specs.declared.SecondName.TheVariants.{There, Absent}
 use Rattle.filestore_base.specs.Rules.{len_of, build_test, write_test, write_base, same_base}
 use Rattle.filestore_base.specs.declared.FilestoreTlvBase.{FilestoreTlvBase}
 use Rattle.filestore_base.proofs.Laws.{Spans}
@@ -33,16 +31,13 @@ use Rattle.filestore_reader.proofs.Said.{placed_by, by_iff, built_by, selected_b
 use Rattle.filestore_reader.proofs.Theorems as readers
 use Rattle.filestore_response.specs.Meaning.{response_meant, response_filed, response_placed, slack_response, response_said, take_response, take_strict_response}
 use Rattle.filestore_response.specs.Rules.{response_base, message_in, response_in, new_response, read_response, strict_response}
-use Rattle.filestore_response.specs.Told.{told_response}
 use Rattle.filestore_response.specs.declared.FilestoreResponseTlv.{FilestoreResponseTlv}
-use Rattle.filestore_response.specs.declared.FilestoreResponseRead.{FilestoreResponseRead}
-use Rattle.filestore_response.specs.declared.FilestoreResponseRead.TheVariants.{Read, Refused}
 
 -- ---- a response has a message
 
-present : (s : Option (List ℕ)) → there s ≡ true → some (bytes_if s) ≡ s
-present (some v) e = refl
-present none e = absurd (false≢true e)
+present : (s : Option (List ℕ)) → there s ≡ true → Some (bytes_if s) ≡ s
+present (Some v) e = refl
+present None e = absurd (false≢true e)
 
 -- ---- SLACK: where there is none, the layout is the standard's
 
@@ -110,9 +105,9 @@ pub selected_response : (bs : List ℕ) (q : FilestoreResponseTlv) → read_resp
 unfolding read_response
 selected_response bs q e = selected_by true response_said (λ t. t.rest) exactly_response response_in response_meant meant_in bs q e
   where
-    message_in_lem : (s : SecondName) (bs : List ℕ) → part_of (message_in s) bs ≡ bytes_if (part_if s bs)
-    message_in_lem (There l) bs = refl
-    message_in_lem Absent bs = part_of_in (span 0 0) bs (omega arith)
+    message_in_lem : (s : Option Lv) (bs : List ℕ) → part_of (message_in s) bs ≡ bytes_if (part_if s bs)
+    message_in_lem (Some l) bs = refl
+    message_in_lem None bs = part_of_in (span 0 0) bs (omega arith)
 
     meant_in : (f : Found) (bs : List ℕ) → response_meant (response_in f) bs ≡ response_said (meaning f.base bs)
     meant_in f bs =
@@ -166,16 +161,16 @@ read_response_writable bs q o e =
     subst (λ (x : FilestoreResponseTlv). gives tt ≡ write_test (response_base x) bs) f.2
     (subst (λ (x : FilestoreTlvBase). gives tt ≡ write_test x bs) b (readers.read_writable true bs f.0 o f.1))
   where
-    there_is : (b : FilestoreTlvBase) → is_there b.message ≡ true → b ≡ base_of b.action_code b.low_bits b.first_name b.second_name (There (message_in b.message))
+    there_is : (b : FilestoreTlvBase) → is_there b.message ≡ true → b ≡ base_of b.action_code b.low_bits b.first_name b.second_name (Some (message_in b.message))
     there_is b h = ap (base_of b.action_code b.low_bits b.first_name b.second_name) (go b.message h)
       where
-        go : (s : SecondName) → is_there s ≡ true → s ≡ There (message_in s)
-        go (There l) h = refl
-        go Absent h = absurd (false≢true h)
+        go : (s : Option Lv) → is_there s ≡ true → s ≡ Some (message_in s)
+        go (Some l) h = refl
+        go None h = absurd (false≢true h)
 
     placed_there : (at : ℕ) (s : Option (List ℕ)) → there s ≡ true → is_there (second_at at s) ≡ true
-    placed_there at (some v) h = refl
-    placed_there at none h = h
+    placed_there at (Some v) h = refl
+    placed_there at None h = h
 
 responded : (q : FilestoreResponseTlv) (src : List ℕ) → Octets src → gives tt ≡ write_test (response_base q) src → Responded (response_meant q src)
 responded q src o e =
@@ -211,12 +206,3 @@ response_runs_short bs = short_map response_in (read_base true bs) (readers.base
 pub strict_response_runs_short : (bs : List ℕ) → ShortBy (ShortTlv bs) (strict_response bs)
 unfolding strict_response
 strict_response_runs_short bs = short_map response_in (strict_base true bs) (readers.strict_runs_short true bs)
-
--- ---- ONE ANSWER: of the builders and the readers
-
-pub one_response : (x : Answer FilestoreResponseTlv) (a b : FilestoreResponseRead) → told_response a ≡ x → told_response b ≡ x → a ≡ b
-one_response = one_told told_response Read Refused back
-  where
-    back : (a : FilestoreResponseRead) → untold Read Refused (told_response a) ≡ a
-    back (Read q) = refl
-    back (Refused r) = ap Refused (refusal_of_refused r)

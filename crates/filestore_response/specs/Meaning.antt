@@ -1,6 +1,5 @@
 -- A response as the standard means it (`bluebook`), where its parts lie, and what plain reading ignores beside it.
-use Rattle.std.specs.Prelude.{ℕ, true, List, ◌++◌}
-use Rattle.std.proofs.Math.Option.{some}
+use Rattle.std.specs.Prelude.{ℕ, true, List, ◌++◌, Some}
 use Rattle.bluebook.specs.Layouts.{Response, response_value, tlv, filestore_response}
 use Rattle.refusal.specs.Reader.{Reader, reworded}
 use Rattle.lv.specs.Rules.{part_of}
@@ -25,7 +24,7 @@ response_meant q bs = record {
 
 -- a response has a message
 abbrev pub response_filed : Response → Filed
-response_filed m = filed m.action m.status m.first m.second (some m.message)
+response_filed m = filed m.action m.status m.first m.second (Some m.message)
 
 abbrev pub response_placed : Response → FilestoreResponseTlv
 response_placed m = response_in (found_of (placed (response_filed m)) 0)

@@ -1,4 +1,3 @@
 -- The definitions of this crate.
 pub mod Rules
-pub mod Told
 pub mod Short

@@ -4,32 +4,24 @@
 
 ghost use Rattle.std.specs.Prelude.{◌≡◌, length, eqb};
 ghost use Rattle.refusal.specs.Answer.{short_at};
-ghost use Rattle.refusal.specs.Told.{told_written, told_checked, told_length, told_sameness};
+ghost use Rattle.refusal.specs.Told.{told};
 ghost use Rattle.splice.specs.Writing.{Wrote};
 ghost use Rattle.lv.specs.Rules.{span, part_of, span_test, size_test, write_test, new_lv, len_full, read_lv, read_lv_at, write_lv, write_lv_at, same_lv};
-ghost use Rattle.lv.specs.Told.{told_lv};
 
-use refusal::{Checked, Length, Refusal, Sameness, Written};
+use refusal::Refusal;
 
-// Where a value lies in the buffer that it was read from, or that it is written from.
+// Where a value lies in the buffer that it was read from, or that it is written from. Document 01 has spans for slices, and C hands them over.
 #[derive(Clone, Copy)]
 pub struct Lv {
     pub start: usize,
     pub len: usize,
 }
 
-// What building and reading answer.
-#[derive(Clone, Copy)]
-pub enum LvRead {
-    Read(Lv),
-    Refused(Refusal),
-}
-
 // Refusal 1.
-fn short(place: usize, found: usize, expected: usize) -> LvRead
-    ensures { told_lv result ≡ short_at place found expected }
+fn short(place: usize, found: usize, expected: usize) -> Result<Lv, Refusal>
+    ensures { told result ≡ short_at place found expected }
 {
-    LvRead::Refused(Refusal::FromSliceTooSmall {
+    Err(Refusal::FromSliceTooSmall {
         found,
         expected,
         place,
@@ -41,13 +33,13 @@ impl Lv {
     pub const MIN_LEN: usize = 1;
 
     // The value of len bytes from start on. 4 where they are too many.
-    pub fn new(start: usize, len: usize) -> LvRead
-        ensures { told_lv result ≡ new_lv start len }
+    #[tactic(auto, unfolding(crate::specs::Rules::new_lv))]
+    pub fn new(start: usize, len: usize) -> Result<Lv, Refusal>
+        ensures { told result ≡ new_lv start len }
     {
-        if 255 < len {
-            return LvRead::Refused(Refusal::TlvLvDataTooLargeError(len));
-        }
-        LvRead::Read(Lv { start, len })
+        let lv = Lv { start, len };
+        lv.size_test()?;
+        Ok(lv)
     }
 
     // The empty value.
@@ -65,14 +57,12 @@ impl Lv {
     }
 
     // The length of the whole LV, with the length byte. 4 where the value is too long.
-    pub fn len_full(self) -> Length
-        ensures { told_length result ≡ len_full self }
+    #[tactic(auto, using(crate::proofs::Laws::size_test_passed), unfolding(crate::specs::Rules::len_full))]
+    pub fn len_full(self) -> Result<usize, Refusal>
+        ensures { told result ≡ len_full self }
     {
-        let len = self.len;
-        if 255 < len {
-            return Length::Refused(Refusal::TlvLvDataTooLargeError(len));
-        }
-        Length::Len(len + 1)
+        self.size_test()?;
+        Ok(self.len + 1)
     }
 
     pub fn is_empty(self) -> bool
@@ -83,11 +73,11 @@ impl Lv {
     }
 
     // The value, as a part of the buffer, or the buffer's first 0 bytes where the span passes its end: `span_test` tells that.
+    // The test stands here again, so that there is no answer to take apart.
     pub fn value(self, buf: &[u8]) -> &[u8]
         ensures { result.now ≡ part_of self buf.now }
     {
-        let start = self.start;
-        let len = self.len;
+        let Lv { start, len } = self;
         if buf.len() < start {
             return &buf[..0];
         }
@@ -98,74 +88,69 @@ impl Lv {
     }
 
     // 15 where the span passes the buffer's end.
-    pub fn span_test(self, buf: &[u8]) -> Checked
-        ensures { told_checked result ≡ span_test self buf.now }
+    pub fn span_test(self, buf: &[u8]) -> Result<(), Refusal>
+        ensures { told result ≡ span_test self buf.now }
     {
-        let start = self.start;
-        let len = self.len;
+        let Lv { start, len } = self;
         if buf.len() < start {
-            return Checked::Refused(Refusal::PlacePastEnd(start));
+            return Err(Refusal::PlacePastEnd(start));
         }
         if buf.len() - start < len {
-            return Checked::Refused(Refusal::PlacePastEnd(start));
+            return Err(Refusal::PlacePastEnd(start));
         }
-        Checked::Fine
+        Ok(())
     }
 
     // 4 where the value is too long.
-    pub fn size_test(self) -> Checked
-        ensures { told_checked result ≡ size_test self }
+    pub fn size_test(self) -> Result<(), Refusal>
+        ensures { told result ≡ size_test self }
     {
         let len = self.len;
         if 255 < len {
-            return Checked::Refused(Refusal::TlvLvDataTooLargeError(len));
+            return Err(Refusal::TlvLvDataTooLargeError(len));
         }
-        Checked::Fine
+        Ok(())
     }
 
     // What a writer tests before the room: 4, then 15.
-    pub fn write_test(self, src: &[u8]) -> Checked
-        ensures { told_checked result ≡ write_test self src.now }
+    #[tactic(auto, unfolding(crate::specs::Rules::write_test))]
+    pub fn write_test(self, src: &[u8]) -> Result<(), Refusal>
+        ensures { told result ≡ write_test self src.now }
     {
-        self.size_test().then(self.span_test(src))
+        self.size_test()?;
+        self.span_test(src)
     }
 
     // Writes the LV to the front of buf; its value lies in src. 4, 15, then 2.
-    pub fn write_to_slice(self, src: &[u8], buf: &mut [u8]) -> Written
-        ensures { Wrote 0 (write_lv self src.now (length buf.old)) (told_written result) buf.old buf.new }
+    pub fn write_to_slice(self, src: &[u8], buf: &mut [u8]) -> Result<usize, Refusal>
+        ensures { Wrote 0 (write_lv self src.now (length buf.old)) (told result) buf.old buf.new }
     {
         self.write_at(src, buf, 0)
     }
 
     // Writes the LV to buf from the place at on. 4, 15 for the place, 15 for the span, then 2, counted from the place.
-    pub fn write_at(self, src: &[u8], buf: &mut [u8], at: usize) -> Written
-        ensures { Wrote at (write_lv_at self src.now at (length buf.old)) (told_written result) buf.old buf.new }
+    pub fn write_at(self, src: &[u8], buf: &mut [u8], at: usize) -> Result<usize, Refusal>
+        ensures { Wrote at (write_lv_at self src.now at (length buf.old)) (told result) buf.old buf.new }
     {
-        let size = self.size_test();
-        if let Checked::Refused(r) = size {
-            return Written::Refused(r);
-        }
+        self.size_test()?;
         if buf.len() < at {
-            return Written::Refused(Refusal::PlacePastEnd(at));
+            return Err(Refusal::PlacePastEnd(at));
         }
-        let span = self.span_test(src);
-        if let Checked::Refused(r) = span {
-            return Written::Refused(r);
-        }
+        self.span_test(src)?;
         let v = self.value(src);
         let found = buf.len() - at;
         let expected = v.len() + 1;
         if found < expected {
-            return Written::Refused(Refusal::ToSliceTooSmall { found, expected });
+            return Err(Refusal::ToSliceTooSmall { found, expected });
         }
         buf[at] = v.len() as u8;
-        splice::put(buf, at + 1, v);
-        Written::Bytes(expected)
+        splice::put(buf, at + 1, v)?;
+        Ok(expected)
     }
 
     // The LV at the front of buf. What stands behind it is ignored. 1.
-    pub fn from_bytes(buf: &[u8]) -> LvRead
-        ensures { told_lv result ≡ read_lv buf.now }
+    pub fn from_bytes(buf: &[u8]) -> Result<Lv, Refusal>
+        ensures { told result ≡ read_lv buf.now }
     {
         let end = buf.len();
         Lv::read_at(buf, 0, end)
@@ -173,14 +158,14 @@ impl Lv {
 
     // The LV that starts at the place at and ends at the place end or before. 15 where end is past the buffer's end, 15 where at is past end, then 1 with
     // the place at.
-    pub fn read_at(buf: &[u8], at: usize, end: usize) -> LvRead
-        ensures { told_lv result ≡ read_lv_at buf.now at end }
+    pub fn read_at(buf: &[u8], at: usize, end: usize) -> Result<Lv, Refusal>
+        ensures { told result ≡ read_lv_at buf.now at end }
     {
         if buf.len() < end {
-            return LvRead::Refused(Refusal::PlacePastEnd(end));
+            return Err(Refusal::PlacePastEnd(end));
         }
         if end < at {
-            return LvRead::Refused(Refusal::PlacePastEnd(at));
+            return Err(Refusal::PlacePastEnd(at));
         }
         let found = end - at;
         if found < Lv::MIN_LEN {
@@ -191,21 +176,17 @@ impl Lv {
             return short(at, found, len + 1);
         }
         let start = at + 1;
-        LvRead::Read(Lv { start, len })
+        Ok(Lv { start, len })
     }
 
     // Whether two LVs hold the same value, each in its own buffer. 15 for its own span, then for the other's.
-    pub fn same(self, buf: &[u8], other: Lv, other_buf: &[u8]) -> Sameness
-        ensures { told_sameness result ≡ same_lv self buf.now other other_buf.now }
+    // It is no `==`, which could not refuse, and would compare places.
+    #[tactic(auto, unfolding(crate::specs::Rules::same_lv))]
+    pub fn same(self, buf: &[u8], other: Lv, other_buf: &[u8]) -> Result<bool, Refusal>
+        ensures { told result ≡ same_lv self buf.now other other_buf.now }
     {
-        let test = self.span_test(buf).then(other.span_test(other_buf));
-        if let Checked::Refused(r) = test {
-            return Sameness::Refused(r);
-        }
-        if splice::same(self.value(buf), other.value(other_buf)) {
-            Sameness::Same
-        } else {
-            Sameness::Different
-        }
+        self.span_test(buf)?;
+        other.span_test(other_buf)?;
+        Ok(splice::same(self.value(buf), other.value(other_buf)))
     }
 }

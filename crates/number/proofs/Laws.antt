@@ -3,48 +3,21 @@ use mathlib.Core.Path.{◌≡◌, refl, sym, ap, ◌∙◌}
 use Prim.Native.Nat.{ℕ, zero, suc, ◌+◌, ◌-◌, ◌*◌, ◌/◌, ◌%◌, ◌^◌, ◌≤◌, ◌<◌}
 use native.Mathlib.Omega.{arith}
 use lib.Pow.{pow_pos, pow-add}
-use native.Mathlib.Nat.{div-eq_of_lt, div-lt_iff_lt-mul, zero-add, add-zero, one-mul, pow-suc, pow-le-pow_right, add-suc}
-use native.Mathlib.Numerals.{add-one}
+use native.Mathlib.Nat.{div-eq_of_lt, div-lt_iff_lt-mul, zero-add, add-zero, one-mul, pow-suc, add-suc}
 use mathlib.Core.List.{List, [], ◌∷◌, ◌++◌, append_assoc, append-nil}
-use lib.ListN.{length, take, drop, get_or, set, replicate, length-replicate, length-set, length-append, drop_of_length-le}
-use lib.Seq.{drop-cons, drop-set-lt, drop-length, drop-append-le, take_all, get_or-set_same}
+use lib.ListN.{length, take, drop, replicate, length-replicate, length-append, drop_of_length-le}
+use lib.Seq.{drop-append-le, take_all}
 use mathlib.Core.Bool.{Bool, true, false}
 use lib.Dec.{leb, ltb}
 use borrow.Author.Tests.{le-leb, lt-leb, lt-ltb, le-ltb, leb-true, leb-false, ltb-true}
+use Rattle.std.specs.Int.{w64, from_be_bytes, to_be_bytes}
+use Rattle.std.proofs.lemmas.Nat.{from_be_bytes-to_be_bytes_8}
 use Rattle.bluebook.specs.Layouts.{Octets, be_bytes}
-use Rattle.refusal.specs.Answer.{Answer, gives, refuses, pick, Test}
+use Rattle.refusal.specs.Answer.{gives, refuses, pick, Test}
 use Rattle.refusal.proofs.Laws.{gives_or_refuses}
-use Rattle.refusal.proofs.Once.{refusal_of_refused, untold, one_told}
 use Rattle.splice.specs.Laid.{laid}
 use Rattle.splice.proofs.Laws.{laid_is}
-use Rattle.number.specs.Told.{told_number}
-use Rattle.number.specs.declared.Number.{Number}
-use Rattle.number.specs.declared.Number.TheVariants.{Is, Refused}
 use Rattle.number.specs.Rules.{be_from, of_be, read_be, number_test}
-
--- one byte more, at the place i
-pub be_from_next : (v : List ℕ) (i x : ℕ) → i < length v → be_from (x * 256 + get_or v i 0) (drop (i + 1) v) ≡ be_from x (drop i v)
-unfolding be_from
-be_from_next v i x h = rw (add-one, drop-cons v i 0 h)
-
-pub be_from_done : (v : List ℕ) (i x : ℕ) → i ≡ length v → be_from x (drop i v) ≡ x
-unfolding be_from
-be_from_done v i x e = rw (e, drop-length v)
-
--- a number of i bytes, i below 8, has room for one more in 64 bits
-pub next_fits : (x b i : ℕ) → i < 8 → x < 256 ^ i → b < 256 → (x * 256 + b < 2 ^ 64) × (x * 256 + b < 256 ^ (i + 1))
-next_fits x b i h k l =
-    let p : 256 ^ i ≤ 256 ^ 7 = let l : 0 < 256 = omega arith in let m : i ≤ 7 = omega arith in pow-le-pow_right l m in
-    (omega arith, rw add-one (omega (arith, pow-suc 256 i)))
-
--- a turn of the writer
-pub be_bytes_next : (d : List ℕ) (i x : ℕ) → 0 < i → i ≤ length d
-    → be_bytes i x ++ drop i d ≡ be_bytes (i - 1) (x / 256) ++ drop (i - 1) (set d (i - 1) (x % 256))
-unfolding be_bytes
-be_bytes_next d zero x h k = absurd (omega arith)
-be_bytes_next d (suc j) x h k =
-    let e : suc j - 1 ≡ j = omega arith in
-    rw e (rw (drop-cons (set d j (x % 256)) j 0 (rw (length-set d j (x % 256)) k), get_or-set_same d j (x % 256) 0 k, drop-set-lt (suc j) d j (x % 256) (omega arith), append_assoc))
 
 -- ---- what they mean
 
@@ -97,13 +70,36 @@ unfolding be_bytes
 length_be zero x = refl
 length_be (suc k) x = length-append (be_bytes k (x / 256)) (x % 256 ∷ []) ∙ omega (arith, length_be k (x / 256))
 
--- where the writer begins, and where it ends
-pub be_bytes_all : (d : List ℕ) (x : ℕ) → be_bytes (length d) x ≡ be_bytes (length d) x ++ drop (length d) d
-be_bytes_all d x = rw (drop-length d, append-nil)
+-- 8 bytes, as the library's own conversions have them
 
-pub be_bytes_none : (i x : ℕ) (d : List ℕ) → i ≡ 0 → be_bytes i x ++ drop i d ≡ d
-unfolding be_bytes
-be_bytes_none i x d e = rw e
+pub of_be_eight : (bs : List ℕ) → length bs ≡ 8 → from_be_bytes w64 bs ≡ of_be bs
+unfolding be_from
+of_be_eight [] e = absurd (omega arith)
+of_be_eight (a ∷ []) e = absurd (omega arith)
+of_be_eight (a ∷ b ∷ []) e = absurd (omega arith)
+of_be_eight (a ∷ b ∷ c ∷ []) e = absurd (omega arith)
+of_be_eight (a ∷ b ∷ c ∷ d ∷ []) e = absurd (omega arith)
+of_be_eight (a ∷ b ∷ c ∷ d ∷ f ∷ []) e = absurd (omega arith)
+of_be_eight (a ∷ b ∷ c ∷ d ∷ f ∷ g ∷ []) e = absurd (omega arith)
+of_be_eight (a ∷ b ∷ c ∷ d ∷ f ∷ g ∷ h ∷ []) e = absurd (omega arith)
+of_be_eight (a ∷ b ∷ c ∷ d ∷ f ∷ g ∷ h ∷ i ∷ []) e = omega arith
+of_be_eight (a ∷ b ∷ c ∷ d ∷ f ∷ g ∷ h ∷ i ∷ j ∷ bs) e = absurd (omega arith)
+
+octets_eight : (x : ℕ) → Octets (to_be_bytes w64 x)
+octets_eight x zero = omega arith
+octets_eight x (suc zero) = omega arith
+octets_eight x (suc (suc zero)) = omega arith
+octets_eight x (suc (suc (suc zero))) = omega arith
+octets_eight x (suc (suc (suc (suc zero)))) = omega arith
+octets_eight x (suc (suc (suc (suc (suc zero))))) = omega arith
+octets_eight x (suc (suc (suc (suc (suc (suc zero)))))) = omega arith
+octets_eight x (suc (suc (suc (suc (suc (suc (suc zero))))))) = omega arith
+octets_eight x (suc (suc (suc (suc (suc (suc (suc (suc k)))))))) = omega arith
+
+pub be_bytes_eight : (x : ℕ) → x < 2 ^ 64 → to_be_bytes w64 x ≡ be_bytes 8 x
+be_bytes_eight x h =
+    let e : of_be (to_be_bytes w64 x) ≡ x = sym (of_be_eight (to_be_bytes w64 x) refl) ∙ from_be_bytes-to_be_bytes_8 x h in
+    sym (be_forth (to_be_bytes w64 x) (octets_eight x)).0 ∙ ap (be_bytes 8) e
 
 -- a number's last k bytes are its bytes behind the first m of m + k
 pub be_bytes_drop : (m k x : ℕ) → drop m (be_bytes (m + k) x) ≡ be_bytes k x
@@ -183,12 +179,3 @@ last_bytes x k b h e =
     let n : 8 - k + k ≡ 8 = omega arith in
     let g : drop (8 - k) b ≡ be_bytes k x = ap (drop (8 - k)) (e ∙ ap (λ (j : ℕ). be_bytes j x) (sym n)) ∙ be_bytes_drop (8 - k) k x in
     ap (take (8 - (8 - k))) g ∙ take_all (8 - (8 - k)) (be_bytes k x) (omega (arith, length_be k x))
-
--- ---- ONE ANSWER: of `read`
-
-pub one_number : (x : Answer ℕ) (a b : Number) → told_number a ≡ x → told_number b ≡ x → a ≡ b
-one_number = one_told told_number Is Refused back
-  where
-    back : (a : Number) → untold Is Refused (told_number a) ≡ a
-    back (Is x) = refl
-    back (Refused r) = ap Refused (refusal_of_refused r)

@@ -1,3 +1,2 @@
 -- The definitions of this crate.
 pub mod Rules
-pub mod Told

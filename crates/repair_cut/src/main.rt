@@ -2,14 +2,10 @@
 // request, over the stump, and lists the journal that this makes.
 #![tactic(auto)]
 
-ghost use Rattle.std.specs.Prelude.{◌≡◌, length};
-
-use dump_io::{Failure, Input};
-use filestore_base::SecondName;
+use dump_io::Failure;
 use filestore_request::FilestoreRequestTlv;
 use filestore_response::FilestoreResponseTlv;
 use lv::Lv;
-use refusal::Written;
 use repair::FirstRequest;
 use std::io;
 use std::io::{Stdout, Write};
@@ -22,8 +18,7 @@ fn line(out: &mut Stdout, text: &[u8]) -> io::Result<()> {
 // The names of a request, a line each.
 fn print_names(out: &mut Stdout, request: FilestoreRequestTlv, bytes: &[u8]) -> io::Result<()> {
     line(out, request.first_name().value(bytes))?;
-    let second_name = request.second_name();
-    if let SecondName::There(name) = second_name {
+    if let Some(name) = request.second_name() {
         line(out, name.value(bytes))?;
     }
     Ok(())
@@ -49,38 +44,28 @@ fn respond(
     src: &[u8],
 ) -> io::Result<()> {
     match repair::append_response(journal, used, done(request), src) {
-        Written::Bytes(n) => dump_io::list(&journal[..n], out),
-        Written::Refused(_) => line(out, b"refused"),
+        Ok(n) => dump_io::list(&journal[..n], out),
+        Err(_) => line(out, b"refused"),
     }
 }
 
 // The request is read from a copy of the journal, so that its names can be lent while the journal is written to.
 fn run(out: &mut Stdout, copy: &[u8], journal: &mut [u8]) -> io::Result<()> {
     match repair::first_request(copy) {
-        FirstRequest::Found { place, request } => {
+        Ok(Some(FirstRequest { place, request })) => {
             let bytes = &copy[place..];
             print_names(out, request, bytes)?;
             respond(out, journal, copy.len(), request, bytes)
         }
-        FirstRequest::NoRequest => line(out, b"no request"),
-        FirstRequest::Refused(_) => line(out, b"too long"),
+        Ok(None) => line(out, b"no request"),
+        Err(_) => line(out, b"too long"),
     }
-}
-
-// Room for the longest journal. The clause is what lending the array as a slice needs.
-fn room() -> [u8; 65536]
-    ensures { 65536 ≡ length result }
-{
-    [0; 65536]
 }
 
 fn main(rt: HostRuntime) -> Result<(), Failure> {
-    let mut journal = room();
-    match dump_io::read_input(&mut rt.stdin(), &mut journal) {
-        Input::Bytes(used) => {
-            let copy = journal;
-            run(&mut rt.stdout(), &copy[..used], &mut journal).map_err(Failure::Output)
-        }
-        Input::Failed(e) => Err(Failure::Input(e)),
-    }
+    // room for the longest journal
+    let mut journal = dump_io::room::<65536>();
+    let used = dump_io::read_input(&mut rt.stdin(), &mut journal).map_err(Failure::Input)?;
+    let copy = journal;
+    run(&mut rt.stdout(), &copy[..used], &mut journal).map_err(Failure::Output)
 }

@@ -1,17 +1,18 @@
 -- The laws of bytes laid over bytes, and of bytes compared. Callers cite these, and do not open the definitions. Assumes nothing.
 use mathlib.Core.Path.{◌≡◌, refl, sym, ap, ◌∙◌}
-use Prim.Native.Nat.{ℕ, suc, ◌+◌, ◌-◌, ◌≤◌, ◌<◌}
+use Prim.Native.Nat.{ℕ, suc, ◌+◌, ◌-◌, ◌≤◌}
 use native.Mathlib.Omega.{arith}
 use native.Mathlib.Nat.{zero-add}
 use native.Mathlib.Numerals.{add-one}
 use mathlib.Core.Logic.{◌↔◌}
-use mathlib.Core.Bool.{Bool, true, false, ◌&&◌, and-true, and-false}
+use mathlib.Core.Bool.{Bool, true, false, ◌&&◌}
 use mathlib.Core.List.{List, [], ◌∷◌, ◌++◌, append_assoc, append-nil}
-use lib.ListN.{length, take, drop, get_or, set, length-append, length-drop, take-append-drop, drop_of_length-le}
-use lib.Seq.{take-suc, take-suc-set, take-length, drop-set-lt, take-append-le, take-append-add, take-take, drop-append-le, drop-append-add, drop-drop, length-take-le}
+use lib.ListN.{length, take, drop, set, length-append, length-drop, take-append-drop, drop_of_length-le}
+use lib.Seq.{take-suc-set, take-length, drop-set-lt, take-append-le, drop-append-le, drop-append-add, drop-drop, length-take-le}
 use lib.Dec.{eqb}
-use borrow.Author.Tests.{eq-eqb, ne_eqb, eqb-true}
+use borrow.Author.Tests.{eq-eqb, eqb-true}
 use borrow.Rule.Slice.PartMut.{put_mid}
+use Rattle.std.specs.Cmp.Lexicographic.{pointwise}
 use Rattle.splice.specs.Laid.{laid, same_bytes}
 
 -- ---- laid
@@ -85,36 +86,16 @@ laid_behind at p vs d h =
     ∙ (λ i. append_assoc (take at d) p vs i ++ drop (n i) d)
     ∙ sym (laid_is at (p ++ vs) d)
 
--- the first w of s, and then all behind its first m over them, where m is at most w: all of s. What lies under both is written twice.
-pub laid_ends : (at m w : ℕ) (s d : List ℕ) → m ≤ w → w ≤ length s → at + length s ≤ length d
-    → laid (at + m) (drop m s) (laid at (take w s) d) ≡ laid at s d
-laid_ends at m w s d hm hw hf =
-    let p : List ℕ = take at d ++ take w s in
-    let q : List ℕ = drop (at + w) d in
-    let lt : length (take w s) ≡ w = length-take-le w s hw in
-    let la : length (take at d) ≡ at = length-take-le at d (omega arith) in
-    let lp : length p ≡ at + w = omega (arith, length-append (take at d) (take w s)) in
-    let ld : length (drop m s) ≡ length s - m = length-drop m s in
-    let e : laid at (take w s) d ≡ p ++ q = laid_is at (take w s) d ∙ ap (λ (k : ℕ). p ++ drop (at + k) d) lt in
-    let t : take (at + m) (p ++ q) ≡ take at d ++ take m s =
-    take-append-le (at + m) p q (omega arith)
-    ∙ ap (λ (k : ℕ). take (k + m) p) (sym la)
-    ∙ take-append-add (take at d) (take w s) m
-    ∙ ap (λ (r : List ℕ). take at d ++ r) (take-take m w s hm)
-    in
-    let i : at + m + length (drop m s) ≡ length p + (length s - w) = omega arith in
-    let j : at + w + (length s - w) ≡ at + length s = omega arith in
-    let u : drop (at + m + length (drop m s)) (p ++ q) ≡ drop (at + length s) d =
-    ap (λ (k : ℕ). drop k (p ++ q)) i ∙ drop-append-add p q (length s - w) ∙ drop-drop (length s - w) (at + w) d ∙ ap (λ (k : ℕ). drop k d) j
-    in
-    ap (laid (at + m) (drop m s)) e
-    ∙ laid_is (at + m) (drop m s) (p ++ q)
-    ∙ ap (λ (r : List ℕ). r ++ drop m s ++ drop (at + m + length (drop m s)) (p ++ q)) t
-    ∙ ap (λ (r : List ℕ). take at d ++ take m s ++ drop m s ++ r) u
-    ∙ ap (λ (r : List ℕ). r ++ drop (at + length s) d) (append_assoc (take at d) (take m s) (drop m s) ∙ ap (λ (r : List ℕ). take at d ++ r) (take-append-drop m s))
-    ∙ sym (laid_is at s d)
+-- bytes that are copied over a part that is lent, from `at` on and as long as they are, are laid from there on
+pub laid_over : (at : ℕ) (vs d : List ℕ) → put_mid at (at + length vs - at) d vs ≡ laid at vs d
+laid_over at vs d =
+    let n : at + (at + length vs - at) ≡ at + length vs = omega arith in
+    ap (λ (r : List ℕ). take at d ++ (vs ++ r)) (drop-drop (at + length vs - at) at d ∙ ap (λ (k : ℕ). drop k d) n)
+    ∙ sym (laid_is at vs d ∙ append_assoc (take at d) vs (drop (at + length vs) d))
 
--- ---- sameBytes
+-- ---- same_bytes
+
+-- ---- same_bytes
 
 -- it says exactly whether two lists are equal
 pub same_equal : (a b : List ℕ) → (same_bytes a b ≡ true) ↔ (a ≡ b)
@@ -135,73 +116,10 @@ same_equal a b = (to a b, λ e. rw (← e) (self a))
         go true p e ih = λ i. eqb-true x y p i ∷ ih e i
         go false p e ih = let z : ◌≡◌ {A = ℕ} 0 1 = cc in absurd (omega arith)
 
--- lists of different lengths are not the same
-pub same_lengths : (a b : List ℕ) → (length a ≡ length b → ⊥) → same_bytes a b ≡ false
+-- it is what `==` says of two slices of bytes
+pub same_pointwise : (a b : List ℕ) → same_bytes a b ≡ pointwise eqb a b
 unfolding same_bytes
-same_lengths [] [] h = absurd (h refl)
-same_lengths [] (y ∷ b) h = refl
-same_lengths (x ∷ a) [] h = refl
-same_lengths (x ∷ a) (y ∷ b) h = go (eqb x y) (same_lengths a b (λ e. h (ap suc e)))
-  where
-    go : (t : Bool) → same_bytes a b ≡ false → t && same_bytes a b ≡ false
-    go true ih = ih
-    go false ih = refl
-
--- no bytes are the same as none
-pub same_none : same_bytes [] [] ≡ true
-unfolding same_bytes
-same_none = refl
-
--- one pair of bytes more
-module _ (a b : List ℕ) (i : ℕ) (h : i < length a) (k : i < length b) where
-  same_next : same_bytes (take (i + 1) a) (take (i + 1) b) ≡ same_bytes (take i a) (take i b) && eqb (get_or a i 0) (get_or b i 0)
-  unfolding same_bytes
-  same_next =
-      rw (add-one, take-suc a i 0 h, take-suc b i 0 k)
-      (snoc (take i a) (take i b) (length-take-le i a (omega arith) ∙ sym (length-take-le i b (omega arith))))
-    where
-      x : ℕ
-      x = get_or a i 0
-
-      y : ℕ
-      y = get_or b i 0
-
-      move : (p s : Bool) → p && (s && eqb x y) ≡ (p && s) && eqb x y
-      move true s = refl
-      move false s = refl
-
-      snoc : (c d : List ℕ) → length c ≡ length d → same_bytes (c ++ (x ∷ [])) (d ++ (y ∷ [])) ≡ same_bytes c d && eqb x y
-      snoc [] [] e = and-true (eqb x y)
-      snoc [] (q ∷ d) e = absurd (omega arith)
-      snoc (p ∷ c) [] e = absurd (omega arith)
-      snoc (p ∷ c) (q ∷ d) e = ap (λ (s : Bool). eqb p q && s) (snoc c d (omega arith)) ∙ move (eqb p q) (same_bytes c d)
-
-  pub same_on : get_or a i 0 ≡ get_or b i 0 → same_bytes (take (i + 1) a) (take (i + 1) b) ≡ same_bytes (take i a) (take i b)
-  same_on e = same_next ∙ rw (eq-eqb _ _ e) (and-true (same_bytes (take i a) (take i b)))
-
-  pub same_off : (get_or a i 0 ≡ get_or b i 0 → ⊥) → same_bytes (take (i + 1) a) (take (i + 1) b) ≡ false
-  same_off e = same_next ∙ rw (ne_eqb _ _ e) (and-false (same_bytes (take i a) (take i b)))
-
--- the first k of two lists of one length, and then all behind their first m, where m is at most k
-module _ (a b : List ℕ) (k m : ℕ) (n : length a ≡ length b) (h : m ≤ k) where
-  pub same_first : same_bytes (take k a) (take k b) ≡ false → same_bytes a b ≡ false
-  same_first e = go (same_bytes a b) refl
-    where
-      go : (t : Bool) → same_bytes a b ≡ t → same_bytes a b ≡ false
-      go true p = let z : ◌≡◌ {A = Bool} true false = sym ((same_equal (take k a) (take k b)).1 (ap (take k) ((same_equal a b).0 p))) ∙ e in cc
-      go false p = p
-
-  pub same_last : same_bytes (take k a) (take k b) ≡ true → same_bytes a b ≡ same_bytes (drop m a) (drop m b)
-  same_last e = go (same_bytes (drop m a) (drop m b)) refl
-    where
-      front : take m a ≡ take m b
-      front = sym (take-take m k a h) ∙ ap (take m) ((same_equal (take k a) (take k b)).0 e) ∙ take-take m k b h
-
-      go : (t : Bool) → same_bytes (drop m a) (drop m b) ≡ t → same_bytes a b ≡ same_bytes (drop m a) (drop m b)
-      go true p =
-          (same_equal a b).1 (sym (take-append-drop m a) ∙ (λ i. front i ++ (same_equal (drop m a) (drop m b)).0 p i) ∙ take-append-drop m b) ∙ sym p
-      go false p = back (same_bytes a b) refl ∙ sym p
-        where
-          back : (t : Bool) → same_bytes a b ≡ t → same_bytes a b ≡ false
-          back true q = let z : ◌≡◌ {A = Bool} true false = sym ((same_equal (drop m a) (drop m b)).1 (ap (drop m) ((same_equal a b).0 q))) ∙ p in cc
-          back false q = q
+same_pointwise [] [] = refl
+same_pointwise [] (y ∷ b) = refl
+same_pointwise (x ∷ a) [] = refl
+same_pointwise (x ∷ a) (y ∷ b) = ap (λ (s : Bool). eqb x y && s) (same_pointwise a b)

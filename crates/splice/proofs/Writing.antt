@@ -9,13 +9,14 @@ use lib.Dec.{leb}
 use lib.ListN.{length, drop}
 use borrow.Author.Tests.{le-leb, lt-leb, leb-true, leb-false}
 use Rattle.refusal.specs.Answer.{Answer, gives, refuses, map_answer, also, Test}
-use Rattle.refusal.specs.Told.{told_written}
-use Rattle.refusal.specs.declared.Written.{Written}
+use Rattle.refusal.specs.Told.{told}
+use Rattle.refusal.specs.declared.Refusal.{Refusal}
+use Rattle.std.specs.Prelude.{Result, Ok, Err, IsOk}
 use Rattle.refusal.proofs.Laws.{gives_same, gives_or_refuses, mapped_by, also_passed, also_refused, also_both, place_test_in, place_test_out}
-use Rattle.refusal.proofs.Once.{one_written}
+use Rattle.refusal.proofs.Once.{one_told}
 use Rattle.splice.specs.Laid.{laid}
 use Rattle.splice.specs.Writing.{room_for, room_at, leaves, Wrote}
-use Rattle.splice.proofs.Laws.{laid_front}
+use Rattle.splice.proofs.Laws.{laid_front, laid_all}
 
 -- ---- room
 
@@ -61,6 +62,19 @@ wrote_laid at bs old new h w =
     w.bytes
     ∙ ap (λ (a : Answer (List ℕ)). leaves at a old) (room_at_there at (length old) bs (omega arith) ∙ room_for_in (length old - at) bs (omega arith))
 
+-- bytes as long as the buffer are all that it holds then
+pub wrote_all : (bs old new : List ℕ) {told : Answer ℕ} → length bs ≡ length old → Wrote 0 (room_at 0 (length old) bs) told old new → new ≡ bs
+wrote_all bs old new h w = wrote_laid 0 bs old new (omega arith) w ∙ laid_all bs old h
+
+-- where there is room, no refusal comes
+pub never_refused : (at : ℕ) (bs old new : List ℕ) {n : ℕ} {vs : List ℕ} → at + length bs ≤ length old → Wrote at (room_at at (length old) bs) (refuses n vs) old new → ⊥
+never_refused at bs old new {n} {vs} h w =
+    gives_or_refuses (length bs) n vs (ap (map_answer length) (sym (room_at_there at (length old) bs (omega arith) ∙ room_for_in (length old - at) bs (omega arith))) ∙ sym w.answer)
+
+pub surely_written : (at : ℕ) (bs old new : List ℕ) (r : Result ℕ Refusal) → at + length bs ≤ length old → Wrote at (room_at at (length old) bs) (told r) old new → IsOk r
+surely_written at bs old new (Ok k) h w = refl
+surely_written at bs old new (Err e) h w = absurd (never_refused at bs old new h w)
+
 -- ---- what a writer gives that tests and then sees to the room: its bytes, exactly where the test is passed and there is room
 
 pub gives_room : (test : Test) (n : ℕ) (bytes bs : List ℕ) → (also test (room_for n bytes) ≡ gives bs) ↔ ((gives tt ≡ test) × (length bytes ≤ n) × (bs ≡ bytes))
@@ -97,6 +111,6 @@ left_by test bs old new k w =
 
 -- ---- ONE ANSWER, AND ONE BUFFER
 
-pub one_wrote : (at : ℕ) (out : Answer (List ℕ)) (old : List ℕ) (a b : Written) (new new' : List ℕ)
-    → Wrote at out (told_written a) old new → Wrote at out (told_written b) old new' → (a ≡ b) × (new ≡ new')
-one_wrote at out old a b new new' p q = (one_written (map_answer length out) a b p.answer q.answer, p.bytes ∙ sym q.bytes)
+pub one_wrote : (at : ℕ) (out : Answer (List ℕ)) (old : List ℕ) (a b : Result ℕ Refusal) (new new' : List ℕ)
+    → Wrote at out (told a) old new → Wrote at out (told b) old new' → (a ≡ b) × (new ≡ new')
+one_wrote at out old a b new new' p q = (one_told (map_answer length out) a b p.answer q.answer, p.bytes ∙ sym q.bytes)

@@ -10,16 +10,16 @@ mod writers;
 
 ghost use Rattle.std.specs.Prelude.{◌≡◌};
 
-use test_text::{Words, begins};
+use test_text::Call;
 
-pub fn say(key: &[u8], left: Words, w: Words, a: &[u8], b: &[u8])
+pub fn say(call: &Call)
     ensures { result ≡ tt }
 {
-    if begins(key, b"request.") {
-        return request_rows::say(key, left, w, a, b);
+    if call.begins(b"request.") {
+        return request_rows::say(call);
     }
-    if begins(key, b"response.") {
-        return response_rows::say(key, left, w, a, b);
+    if call.begins(b"response.") {
+        return response_rows::say(call);
     }
-    action_rows::say(key, w, a, b);
+    action_rows::say(call);
 }

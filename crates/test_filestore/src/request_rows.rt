@@ -1,93 +1,94 @@
 // The calls of filestore_request.
 use crate::{values, writers};
-use action::ActionCodeRead;
-use filestore_request::{FilestoreRequestRead, FilestoreRequestTlv};
-use lv::LvRead;
-use test_answers::{length, request};
-use test_text::{Words, is_row};
+use filestore_base::FilestoreTlv;
+use filestore_request::FilestoreRequestTlv;
+use refusal::Refusal;
+use test_answers::Say;
+use test_text::Call;
+use tlv::GenericTlv;
 
-pub(crate) fn say(key: &[u8], left: Words, w: Words, a: &[u8], b: &[u8]) {
-    let name = values::lv(w);
-    if is_row(key, b"request.new_create_file NN") {
-        return request(FilestoreRequestTlv::new_create_file(name));
+pub(crate) fn say(call: &Call) {
+    let name = values::lv(call.w);
+    if call.is(b"request.new_create_file NN") {
+        return FilestoreRequestTlv::new_create_file(name).say();
     }
-    if is_row(key, b"request.new_delete_file NN") {
-        return request(FilestoreRequestTlv::new_delete_file(name));
+    if call.is(b"request.new_delete_file NN") {
+        return FilestoreRequestTlv::new_delete_file(name).say();
     }
-    if is_row(key, b"request.new_rename_file NNNN") {
-        return request(FilestoreRequestTlv::new_rename_file(values::before(w), name));
+    if call.is(b"request.new_rename_file NNNN") {
+        return FilestoreRequestTlv::new_rename_file(values::before(call.w), name).say();
     }
-    if is_row(key, b"request.new_append_file NNNN") {
-        return request(FilestoreRequestTlv::new_append_file(values::before(w), name));
+    if call.is(b"request.new_append_file NNNN") {
+        return FilestoreRequestTlv::new_append_file(values::before(call.w), name).say();
     }
-    if is_row(key, b"request.new_replace_file NNNN") {
-        return request(FilestoreRequestTlv::new_replace_file(values::before(w), name));
+    if call.is(b"request.new_replace_file NNNN") {
+        return FilestoreRequestTlv::new_replace_file(values::before(call.w), name).say();
     }
-    if is_row(key, b"request.new_create_directory NN") {
-        return request(FilestoreRequestTlv::new_create_directory(name));
+    if call.is(b"request.new_create_directory NN") {
+        return FilestoreRequestTlv::new_create_directory(name).say();
     }
-    if is_row(key, b"request.new_remove_directory NN") {
-        return request(FilestoreRequestTlv::new_remove_directory(name));
+    if call.is(b"request.new_remove_directory NN") {
+        return FilestoreRequestTlv::new_remove_directory(name).say();
     }
-    if is_row(key, b"request.new_deny_file NN") {
-        return request(FilestoreRequestTlv::new_deny_file(name));
+    if call.is(b"request.new_deny_file NN") {
+        return FilestoreRequestTlv::new_deny_file(name).say();
     }
-    if is_row(key, b"request.new_deny_directory NN") {
-        return request(FilestoreRequestTlv::new_deny_directory(name));
+    if call.is(b"request.new_deny_directory NN") {
+        return FilestoreRequestTlv::new_deny_directory(name).say();
     }
-    told(key, left, w, a, b);
+    told(call);
 }
 
-fn built(q: FilestoreRequestTlv) -> FilestoreRequestRead {
-    let action_code = q.action_code;
-    let second_name = q.second_name;
-    FilestoreRequestTlv::new(action_code, q.first_name, second_name)
+fn built(q: FilestoreRequestTlv) -> Result<FilestoreRequestTlv, Refusal> {
+    FilestoreRequestTlv::new(q.action_code, q.first_name, q.second_name)
 }
 
-fn told(key: &[u8], left: Words, w: Words, a: &[u8], b: &[u8]) {
-    let q = values::request(w);
-    if is_row(key, b"request.new ANNM") {
-        return request(built(q));
+fn told(call: &Call) {
+    let q = values::request(call.w);
+    if call.is(b"request.new ANNM") {
+        return built(q).say();
     }
-    if is_row(key, b"request.action_code ANNM") {
-        return test_answers::action(ActionCodeRead::Read(q.action_code()));
+    if call.is(b"request.action_code ANNM") {
+        return q.action_code().say();
     }
-    if is_row(key, b"request.first_name ANNM") {
-        return test_answers::lv(LvRead::Read(q.first_name()));
+    if call.is(b"request.first_name ANNM") {
+        return q.first_name().say();
     }
-    if is_row(key, b"request.second_name ANNM") {
-        return test_answers::second(q.second_name());
+    if call.is(b"request.second_name ANNM") {
+        return q.second_name().say();
     }
-    if is_row(key, b"request.len_value ANNM") {
-        return length(q.len_value());
+    if call.is(b"request.len_value ANNM") {
+        return q.len_value().say();
     }
-    if is_row(key, b"request.len_full ANNM") {
-        return length(q.len_full());
+    if call.is(b"request.len_full ANNM") {
+        return q.len_full().say();
     }
-    if is_row(key, b"request.len_written ANNM") {
-        return length(q.len_written());
+    if call.is(b"request.len_written ANNM") {
+        return q.len_written().say();
     }
-    read(key, left, w, a, b);
+    read(call);
 }
 
-fn read(key: &[u8], left: Words, w: Words, a: &[u8], b: &[u8]) {
-    if is_row(key, b"request.tlv_type_field ANNM") {
-        return test_answers::field(values::request(w).tlv_type_field());
+fn read(call: &Call) {
+    if call.is(b"request.tlv_type_field ANNM") {
+        return values::request(call.w).tlv_type_field().say();
     }
-    if is_row(key, b"request.tlv_type ANNM") {
-        return test_answers::standard(values::request(w).tlv_type());
+    if call.is(b"request.tlv_type ANNM") {
+        return values::request(call.w).tlv_type().say();
     }
-    if is_row(key, b"request.is_standard_tlv ANNM") {
-        return test_output::truth(values::request(w).is_standard_tlv());
+    if call.is(b"request.is_standard_tlv ANNM") {
+        return test_output::truth(values::request(call.w).is_standard_tlv());
     }
-    if is_row(key, b"request.from_bytes X") {
-        return request(FilestoreRequestTlv::from_bytes(a));
+    if call.is(b"request.from_bytes X") {
+        return FilestoreRequestTlv::from_bytes(call.a).say();
     }
-    if is_row(key, b"request.from_bytes_strict X") {
-        return request(FilestoreRequestTlv::from_bytes_strict(a));
+    if call.is(b"request.from_bytes_strict X") {
+        return FilestoreRequestTlv::from_bytes_strict(call.a).say();
     }
-    if is_row(key, b"request.same ANNMXANNMX") {
-        return test_answers::sameness(values::request(left).same(a, values::request(w), b));
+    if call.is(b"request.same ANNMXANNMX") {
+        return values::request(call.left)
+            .same(call.a, values::request(call.w), call.b)
+            .say();
     }
-    writers::say(key, w, a, b);
+    writers::say(call);
 }

@@ -1,98 +1,98 @@
 // The calls of filestore_response.
 use crate::{values, writers};
-use action::ActionCodeRead;
-use filestore_response::{FilestoreResponseRead, FilestoreResponseTlv};
-use lv::{Lv, LvRead};
-use test_answers::{length, response};
-use test_text::{Words, is_row};
+use filestore_base::FilestoreTlv;
+use filestore_response::FilestoreResponseTlv;
+use lv::Lv;
+use refusal::Refusal;
+use test_answers::Say;
+use test_text::{Call, Words};
+use tlv::GenericTlv;
 
-fn built(q: FilestoreResponseTlv) -> FilestoreResponseRead {
-    let action_code = q.action_code;
-    let second_name = q.second_name;
+fn built(q: FilestoreResponseTlv) -> Result<FilestoreResponseTlv, Refusal> {
     FilestoreResponseTlv::new(
-        action_code,
+        q.action_code,
         q.status_code,
         q.first_name,
-        second_name,
+        q.second_name,
         q.filestore_message,
     )
 }
 
 // Its words are those of a response without the last two, which are the message's.
-fn without_message(w: Words) -> FilestoreResponseRead {
+fn without_message(w: Words) -> Result<FilestoreResponseTlv, Refusal> {
+    let [.., action, status, start, len, _, _, _] = w;
     FilestoreResponseTlv::new_no_filestore_message(
-        values::action(w.n3),
-        (w.n4 % 256) as u8,
-        Lv {
-            start: w.n5,
-            len: w.n6,
-        },
+        values::action(action),
+        (status % 256) as u8,
+        Lv { start, len },
         values::second(w),
     )
 }
 
-pub(crate) fn say(key: &[u8], left: Words, w: Words, a: &[u8], b: &[u8]) {
-    if is_row(key, b"response.new_no_filestore_message AONNM") {
-        return response(without_message(w));
+pub(crate) fn say(call: &Call) {
+    if call.is(b"response.new_no_filestore_message AONNM") {
+        return without_message(call.w).say();
     }
-    if is_row(key, b"response.new AONNMNN") {
-        return response(built(values::response(w)));
+    if call.is(b"response.new AONNMNN") {
+        return built(values::response(call.w)).say();
     }
-    if is_row(key, b"response.has_second_filename A") {
-        let code = values::action(w.n9);
+    if call.is(b"response.has_second_filename A") {
+        let code = values::action(call.w[8]);
         return test_output::truth(FilestoreResponseTlv::has_second_filename(code));
     }
-    if is_row(key, b"response.from_bytes X") {
-        return response(FilestoreResponseTlv::from_bytes(a));
+    if call.is(b"response.from_bytes X") {
+        return FilestoreResponseTlv::from_bytes(call.a).say();
     }
-    if is_row(key, b"response.from_bytes_strict X") {
-        return response(FilestoreResponseTlv::from_bytes_strict(a));
+    if call.is(b"response.from_bytes_strict X") {
+        return FilestoreResponseTlv::from_bytes_strict(call.a).say();
     }
-    if is_row(key, b"response.same AONNMNNXAONNMNNX") {
-        return test_answers::sameness(values::response(left).same(a, values::response(w), b));
+    if call.is(b"response.same AONNMNNXAONNMNNX") {
+        return values::response(call.left)
+            .same(call.a, values::response(call.w), call.b)
+            .say();
     }
-    told(key, left, w, a, b);
+    told(call);
 }
 
-fn told(key: &[u8], left: Words, w: Words, a: &[u8], b: &[u8]) {
-    let q = values::response(w);
-    if is_row(key, b"response.action_code AONNMNN") {
-        return test_answers::action(ActionCodeRead::Read(q.action_code()));
+fn told(call: &Call) {
+    let q = values::response(call.w);
+    if call.is(b"response.action_code AONNMNN") {
+        return q.action_code().say();
     }
-    if is_row(key, b"response.status_code AONNMNN") {
+    if call.is(b"response.status_code AONNMNN") {
         return test_output::count(q.status_code() as usize);
     }
-    if is_row(key, b"response.first_name AONNMNN") {
-        return test_answers::lv(LvRead::Read(q.first_name()));
+    if call.is(b"response.first_name AONNMNN") {
+        return q.first_name().say();
     }
-    if is_row(key, b"response.second_name AONNMNN") {
-        return test_answers::second(q.second_name());
+    if call.is(b"response.second_name AONNMNN") {
+        return q.second_name().say();
     }
-    if is_row(key, b"response.filestore_message AONNMNN") {
-        return test_answers::lv(LvRead::Read(q.filestore_message()));
+    if call.is(b"response.filestore_message AONNMNN") {
+        return q.filestore_message().say();
     }
-    as_tlv(key, left, w, a, b);
+    as_tlv(call);
 }
 
-fn as_tlv(key: &[u8], left: Words, w: Words, a: &[u8], b: &[u8]) {
-    let q = values::response(w);
-    if is_row(key, b"response.len_value AONNMNN") {
-        return length(q.len_value());
+fn as_tlv(call: &Call) {
+    let q = values::response(call.w);
+    if call.is(b"response.len_value AONNMNN") {
+        return q.len_value().say();
     }
-    if is_row(key, b"response.len_full AONNMNN") {
-        return length(q.len_full());
+    if call.is(b"response.len_full AONNMNN") {
+        return q.len_full().say();
     }
-    if is_row(key, b"response.len_written AONNMNN") {
-        return length(q.len_written());
+    if call.is(b"response.len_written AONNMNN") {
+        return q.len_written().say();
     }
-    if is_row(key, b"response.tlv_type_field AONNMNN") {
-        return test_answers::field(q.tlv_type_field());
+    if call.is(b"response.tlv_type_field AONNMNN") {
+        return q.tlv_type_field().say();
     }
-    if is_row(key, b"response.tlv_type AONNMNN") {
-        return test_answers::standard(q.tlv_type());
+    if call.is(b"response.tlv_type AONNMNN") {
+        return q.tlv_type().say();
     }
-    if is_row(key, b"response.is_standard_tlv AONNMNN") {
+    if call.is(b"response.is_standard_tlv AONNMNN") {
         return test_output::truth(q.is_standard_tlv());
     }
-    writers::say(key, w, a, b);
+    writers::say(call);
 }

@@ -1,49 +1,53 @@
 // The calls of entity_id.
 use crate::{values, writers};
-use entity_id::{EntityIdRead, EntityIdTlv};
-use test_answers::length;
-use test_text::{Words, is_row};
+use entity_id::EntityIdTlv;
+use test_answers::Say;
+use test_text::Call;
+use tlv::GenericTlv;
 
-pub(crate) fn say(key: &[u8], left: Words, w: Words, a: &[u8], b: &[u8]) {
-    let x = values::entity(w.n8, w.n9);
-    if is_row(key, b"entity.new NN") {
-        return test_answers::entity(EntityIdTlv::new(x.entity_id));
+pub(crate) fn say(call: &Call) {
+    let x = values::entity(call.w);
+    if call.is(b"entity.new NN") {
+        return EntityIdTlv::new(x.entity_id).say();
     }
-    if is_row(key, b"entity.entity_id NN") {
-        return test_answers::entity(EntityIdRead::Read(EntityIdTlv {
+    if call.is(b"entity.entity_id NN") {
+        return EntityIdTlv {
             entity_id: x.entity_id(),
-        }));
+        }
+        .say();
     }
-    if is_row(key, b"entity.len_value NN") {
+    if call.is(b"entity.len_value NN") {
         return test_output::count(x.len_value());
     }
-    if is_row(key, b"entity.len_full NN") {
-        return length(x.len_full());
+    if call.is(b"entity.len_full NN") {
+        return x.len_full().say();
     }
-    if is_row(key, b"entity.len_written NN") {
-        return length(x.len_written());
+    if call.is(b"entity.len_written NN") {
+        return x.len_written().say();
     }
-    if is_row(key, b"entity.tlv_type_field NN") {
-        return test_answers::field(x.tlv_type_field());
+    if call.is(b"entity.tlv_type_field NN") {
+        return x.tlv_type_field().say();
     }
-    if is_row(key, b"entity.tlv_type NN") {
-        return test_answers::standard(x.tlv_type());
+    if call.is(b"entity.tlv_type NN") {
+        return x.tlv_type().say();
     }
-    if is_row(key, b"entity.is_standard_tlv NN") {
+    if call.is(b"entity.is_standard_tlv NN") {
         return test_output::truth(x.is_standard_tlv());
     }
-    read(key, left, w, a, b);
+    read(call);
 }
 
-fn read(key: &[u8], left: Words, w: Words, a: &[u8], b: &[u8]) {
-    if is_row(key, b"entity.from_bytes X") {
-        return test_answers::entity(EntityIdTlv::from_bytes(a));
+fn read(call: &Call) {
+    if call.is(b"entity.from_bytes X") {
+        return EntityIdTlv::from_bytes(call.a).say();
     }
-    if is_row(key, b"entity.from_tlv FNNX") {
-        return test_answers::entity(EntityIdTlv::from_tlv(values::tlv(w), a));
+    if call.is(b"entity.from_tlv FNNX") {
+        return EntityIdTlv::from_tlv(values::tlv(call.w), call.a).say();
     }
-    if is_row(key, b"entity.same NNNN") {
-        return test_output::same(values::entity(w.n6, w.n7).same(values::entity(w.n8, w.n9)));
+    if call.is(b"entity.same NNNN") {
+        return values::entity_before(call.w)
+            .same(values::entity(call.w))
+            .say();
     }
-    writers::say(key, left, w, a, b);
+    writers::say(call);
 }

@@ -1,16 +1,17 @@
 // The calls of splice and number.
 use crate::writers;
-use test_text::{Words, is_row};
+use test_answers::Say;
+use test_text::Call;
 
-pub(crate) fn say(key: &[u8], left: Words, w: Words, a: &[u8], b: &[u8]) {
-    if is_row(key, b"splice.same XX") {
-        return test_output::same(splice::same(a, b));
+pub(crate) fn say(call: &Call) {
+    if call.is(b"splice.same XX") {
+        return splice::same(call.a, call.b).say();
     }
-    if is_row(key, b"number.read X") {
-        return test_answers::number(number::read(a));
+    if call.is(b"number.read X") {
+        return number::read(call.a).say();
     }
-    if is_row(key, b"number.test NN") {
-        return test_answers::checked(number::test(w.n8 as u64, w.n9));
+    if call.is(b"number.test NN") {
+        return number::test(call.w[7] as u64, call.w[8]).say();
     }
-    writers::say(key, left, w, a, b);
+    writers::say(call);
 }

@@ -1,52 +1,52 @@
 // The calls of lv.
 use crate::{values, writers};
-use lv::{Lv, LvRead};
-use test_answers::{checked, length};
+use lv::Lv;
+use test_answers::Say;
 use test_output::{count, truth};
-use test_text::{Words, is_row};
+use test_text::Call;
 
-pub(crate) fn say(key: &[u8], left: Words, w: Words, a: &[u8], b: &[u8]) {
-    let l = values::lv(w);
-    if is_row(key, b"lv.new NN") {
-        return test_answers::lv(Lv::new(w.n8, w.n9));
+pub(crate) fn say(call: &Call) {
+    let l = values::lv(call.w);
+    if call.is(b"lv.new NN") {
+        return Lv::new(call.w[7], call.w[8]).say();
     }
-    if is_row(key, b"lv.new_empty") {
-        return test_answers::lv(LvRead::Read(Lv::new_empty()));
+    if call.is(b"lv.new_empty") {
+        return Lv::new_empty().say();
     }
-    if is_row(key, b"lv.len_value NN") {
+    if call.is(b"lv.len_value NN") {
         return count(l.len_value());
     }
-    if is_row(key, b"lv.len_full NN") {
-        return length(l.len_full());
+    if call.is(b"lv.len_full NN") {
+        return l.len_full().say();
     }
-    if is_row(key, b"lv.is_empty NN") {
+    if call.is(b"lv.is_empty NN") {
         return truth(l.is_empty());
     }
-    if is_row(key, b"lv.size_test NN") {
-        return checked(l.size_test());
+    if call.is(b"lv.size_test NN") {
+        return l.size_test().say();
     }
-    read(key, left, w, a, b);
+    read(call);
 }
 
-fn read(key: &[u8], left: Words, w: Words, a: &[u8], b: &[u8]) {
-    let l = values::lv(w);
-    if is_row(key, b"lv.value NNX") {
-        return test_output::bytes(l.value(a));
+fn read(call: &Call) {
+    let l = values::lv(call.w);
+    if call.is(b"lv.value NNX") {
+        return test_output::bytes(l.value(call.a));
     }
-    if is_row(key, b"lv.span_test NNX") {
-        return checked(l.span_test(a));
+    if call.is(b"lv.span_test NNX") {
+        return l.span_test(call.a).say();
     }
-    if is_row(key, b"lv.write_test NNX") {
-        return checked(l.write_test(a));
+    if call.is(b"lv.write_test NNX") {
+        return l.write_test(call.a).say();
     }
-    if is_row(key, b"lv.from_bytes X") {
-        return test_answers::lv(Lv::from_bytes(a));
+    if call.is(b"lv.from_bytes X") {
+        return Lv::from_bytes(call.a).say();
     }
-    if is_row(key, b"lv.read_at XNN") {
-        return test_answers::lv(Lv::read_at(a, w.n8, w.n9));
+    if call.is(b"lv.read_at XNN") {
+        return Lv::read_at(call.a, call.w[7], call.w[8]).say();
     }
-    if is_row(key, b"lv.same NNXNNX") {
-        return test_answers::sameness(values::lv(left).same(a, l, b));
+    if call.is(b"lv.same NNXNNX") {
+        return values::lv(call.left).same(call.a, l, call.b).say();
     }
-    writers::say(key, left, w, a, b);
+    writers::say(call);
 }

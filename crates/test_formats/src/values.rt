@@ -4,44 +4,52 @@ use lv::Lv;
 use test_text::Words;
 use tlv::{Tlv, TlvType, TlvTypeField};
 
-// A standard type and a type field, each from its number.
-pub(crate) fn tlv_type(x: usize) -> TlvType {
-    match x {
-        0 => TlvType::FilestoreRequest,
-        1 => TlvType::FilestoreResponse,
-        2 => TlvType::MsgToUser,
-        4 => TlvType::FaultHandler,
-        5 => TlvType::FlowLabel,
-        _ => TlvType::EntityId,
+// A type field from its number, 256 and more for a custom label.
+pub(crate) fn field(x: usize) -> TlvTypeField {
+    let byte = (x % 256) as u8;
+    if x < 256 {
+        return TlvTypeField::from(byte);
     }
+    TlvTypeField::Custom(byte)
 }
 
-pub(crate) fn field(x: usize) -> TlvTypeField {
-    if x < 256 {
-        return TlvTypeField::Standard(tlv_type(x));
+// A standard type from its number.
+pub(crate) fn tlv_type(x: usize) -> TlvType {
+    match field(x) {
+        TlvTypeField::Standard(t) => t,
+        TlvTypeField::Custom(_) => TlvType::EntityId,
     }
-    TlvTypeField::Custom((x % 256) as u8)
 }
 
 pub(crate) fn lv(w: Words) -> Lv {
-    Lv {
-        start: w.n8,
-        len: w.n9,
-    }
+    let [.., start, len] = w;
+    Lv { start, len }
 }
 
 pub(crate) fn tlv(w: Words) -> Tlv {
+    let [.., label, _, _] = w;
     Tlv {
-        tlv_type_field: field(w.n7),
+        tlv_type_field: field(label),
         lv: lv(w),
     }
 }
 
-pub(crate) fn entity(width: usize, number: usize) -> EntityIdTlv {
+fn entity_of(width: usize, number: usize) -> EntityIdTlv {
     EntityIdTlv {
         entity_id: UnsignedByteField {
             width,
             value: number as u64,
         },
     }
+}
+
+// The entity ID of the last two words, and that of the two before them.
+pub(crate) fn entity(w: Words) -> EntityIdTlv {
+    let [.., width, number] = w;
+    entity_of(width, number)
+}
+
+pub(crate) fn entity_before(w: Words) -> EntityIdTlv {
+    let [.., width, number, _, _] = w;
+    entity_of(width, number)
 }

@@ -3,55 +3,53 @@
 
 mod sum;
 
-ghost use Rattle.std.specs.Prelude.{◌≡◌};
+ghost use Rattle.std.specs.Prelude.{◌≡◌, ◌<◌, IfSome};
 
 use kind::{Kind, kind_at};
 use lv::Lv;
-use test_answers::{end, record, refused, step, summary};
+use refusal::Refusal;
+use test_answers::{Say, record};
 use test_output::{count, text};
-use test_text::{Words, is_row};
-use tlv::TlvRead;
+use test_text::{Call, Words};
 use walk::{Record, Step, step_at, summary_of};
 
-fn kind(x: Kind) {
+fn kind(x: Result<Kind, Refusal>) {
     match x {
-        Kind::Request => text(b"request"),
-        Kind::Response => text(b"response"),
-        Kind::Entity => text(b"entity"),
-        Kind::Other => text(b"other"),
-        Kind::Refused(r) => refused(r),
+        Ok(Kind::Request) => text(b"request"),
+        Ok(Kind::Response) => text(b"response"),
+        Ok(Kind::Entity) => text(b"entity"),
+        Ok(Kind::Other) => text(b"other"),
+        Err(r) => r.say(),
     }
 }
 
-// Says what stands at a place: a record with its kind, or how the walk ends there. Answers the next place, the same one at an end.
-fn listed(a: &[u8], place: usize) -> usize {
+// Says what stands at a place: a record with its kind, or how the walk ends there. Answers the place behind a record.
+fn listed(a: &[u8], place: usize) -> Option<usize>
+    ensures { IfSome result (λ next. place < next) }
+{
     match step_at(a, place) {
-        Step::Record { record: r, next } => {
+        Ok(Step::Record { record: r, next }) => {
             record(r, next);
             text(b" ");
             kind(kind_at(a, place));
             text(b"; ");
-            next
+            Some(next)
         }
-        Step::End(e) => {
-            end(e);
-            place
+        Ok(Step::End(e)) => {
+            e.say();
+            None
         }
-        Step::Refused(r) => {
-            refused(r);
-            place
+        Err(r) => {
+            r.say();
+            None
         }
     }
 }
 
-// What steps from 0 on find.
+// What steps from 0 on find: a loop by places, as the walk's.
 fn listing(a: &[u8]) {
     let mut place: usize = 0;
-    loop {
-        let next = listed(a, place);
-        if next <= place {
-            return;
-        }
+    while let Some(next) = listed(a, place) {
         place = next;
     }
 }
@@ -61,7 +59,7 @@ fn prefix(s: &[u8]) {
     test_output::line_end();
     count(s.len());
     text(b": ");
-    summary(summary_of(s));
+    summary_of(s).say();
     text(b": ");
     listing(s);
 }
@@ -70,7 +68,7 @@ fn prefix(s: &[u8]) {
 fn prefixes(a: &[u8]) {
     count(a.len());
     for n in 0..=a.len() {
-        prefix(&a[0..n]);
+        prefix(&a[..n]);
     }
 }
 
@@ -79,7 +77,7 @@ fn place(a: &[u8], at: usize) {
     test_output::line_end();
     count(at);
     text(b": ");
-    step(step_at(a, at));
+    step_at(a, at).say();
     text(b"; ");
     kind(kind_at(a, at));
 }
@@ -94,56 +92,54 @@ fn places(a: &[u8]) {
 
 // The record that the last four words stand for: its place, its type byte, its value's start and length.
 fn record_of(w: Words) -> Record {
+    let [.., place, byte, start, len] = w;
     Record {
-        place: w.n6,
-        tlv_type: (w.n7 % 256) as u8,
-        value: Lv {
-            start: w.n8,
-            len: w.n9,
-        },
+        place,
+        tlv_type: (byte % 256) as u8,
+        value: Lv { start, len },
     }
 }
 
-// Makes a call, and says what it answers: key, w and a are as `test_formats::say` has them, and the rows too.
-pub fn say(key: &[u8], w: Words, a: &[u8])
+// Makes a call, and says what it answers.
+pub fn say(call: &Call)
     ensures { result ≡ tt }
 {
-    if is_row(key, b"walk.step_at XN") {
-        return step(step_at(a, w.n9));
+    if call.is(b"walk.step_at XN") {
+        return step_at(call.a, call.w[8]).say();
     }
-    if is_row(key, b"walk.summary_of X") {
-        return summary(summary_of(a));
+    if call.is(b"walk.summary_of X") {
+        return summary_of(call.a).say();
     }
-    if is_row(key, b"walk.listing X") {
-        return listing(a);
+    if call.is(b"walk.listing X") {
+        return listing(call.a);
     }
-    if is_row(key, b"walk.prefixes X") {
-        return prefixes(a);
+    if call.is(b"walk.prefixes X") {
+        return prefixes(call.a);
     }
-    if is_row(key, b"walk.places X") {
-        return places(a);
+    if call.is(b"walk.places X") {
+        return places(call.a);
     }
-    if is_row(key, b"kind.kind_at XN") {
-        return kind(kind_at(a, w.n9));
+    if call.is(b"kind.kind_at XN") {
+        return kind(kind_at(call.a, call.w[8]));
     }
-    more(key, w, a);
+    more(call);
 }
 
-fn more(key: &[u8], w: Words, a: &[u8]) {
-    if is_row(key, b"record.to_tlv NONN") {
-        return test_answers::tlv(TlvRead::Read(record_of(w).to_tlv()));
+fn more(call: &Call) {
+    if call.is(b"record.to_tlv NONN") {
+        return record_of(call.w).to_tlv().say();
     }
-    if is_row(key, b"record.value NONNX") {
-        return test_output::bytes(record_of(w).value(a));
+    if call.is(b"record.value NONNX") {
+        return test_output::bytes(record_of(call.w).value(call.a));
     }
-    if is_row(key, b"record.span_test NONNX") {
-        return test_answers::checked(record_of(w).span_test(a));
+    if call.is(b"record.span_test NONNX") {
+        return record_of(call.w).span_test(call.a).say();
     }
-    if is_row(key, b"walker.first X") {
-        return step(walker::first(a));
+    if call.is(b"walker.first X") {
+        return walker::first(call.a).say();
     }
-    if is_row(key, b"listing.sum X") {
-        return sum::say(a);
+    if call.is(b"listing.sum X") {
+        return sum::say(call.a);
     }
     test_output::bad();
 }

@@ -1,7 +1,22 @@
-// What the program test_recut says. codes has what may differ between a walk and what is due of it.
+// What the program test_recut says.
 ghost use Rattle.std.specs.Prelude.{◌≡◌};
 
-use crate::{codes, count, text};
+use crate::{count, either, text};
+
+// What may differ between a walk and what is due of it. The writer's refusal of the record that is appended counts as a difference.
+#[derive(Clone, Copy, PartialEq, Eq)]
+pub enum Difference {
+    NoRecord,
+    Place,
+    Type,
+    Span,
+    Value,
+    Next,
+    End,
+    Count,
+    SummaryEnd,
+    Refused,
+}
 
 // A line: a number and what it counts.
 pub fn line(x: usize, what: &[u8])
@@ -23,22 +38,22 @@ pub fn not_written()
     text(b"the journal that the library writes differs from the list\n");
 }
 
-// What differs, by its code.
-pub fn difference(what: u8)
+// That nothing differs, or what does.
+pub fn compared(x: Result<(), Difference>)
     ensures { result ≡ tt }
 {
-    match what {
-        codes::NOTHING => text(b"nothing differs\n"),
-        codes::NO_RECORD => text(b"a record is not listed\n"),
-        codes::PLACE => text(b"the place of a record differs\n"),
-        codes::TYPE => text(b"a type byte differs\n"),
-        codes::SPAN => text(b"the span of a value differs\n"),
-        codes::VALUE => text(b"the bytes of a value differ\n"),
-        codes::NEXT => text(b"the place behind a record differs\n"),
-        codes::END => text(b"the end differs\n"),
-        codes::COUNT => text(b"the count of the summary differs\n"),
-        codes::SUMMARY_END => text(b"the end of the summary differs\n"),
-        _ => text(b"the record is refused\n"),
+    match x {
+        Ok(()) => text(b"nothing differs\n"),
+        Err(Difference::NoRecord) => text(b"a record is not listed\n"),
+        Err(Difference::Place) => text(b"the place of a record differs\n"),
+        Err(Difference::Type) => text(b"a type byte differs\n"),
+        Err(Difference::Span) => text(b"the span of a value differs\n"),
+        Err(Difference::Value) => text(b"the bytes of a value differ\n"),
+        Err(Difference::Next) => text(b"the place behind a record differs\n"),
+        Err(Difference::End) => text(b"the end differs\n"),
+        Err(Difference::Count) => text(b"the count of the summary differs\n"),
+        Err(Difference::SummaryEnd) => text(b"the end of the summary differs\n"),
+        Err(Difference::Refused) => text(b"the record is refused\n"),
     }
 }
 
@@ -78,30 +93,19 @@ pub fn after(appended: usize, listed: usize, bytes: usize)
 }
 
 // That nothing differs; or what does where so many bytes are kept, and whether it does so after the append.
-pub fn ended(kept: usize, again: bool, what: u8)
+pub fn ended(kept: usize, again: bool, x: Result<(), Difference>)
     ensures { result ≡ tt }
 {
-    if what == codes::NOTHING {
+    if x.is_ok() {
         return text(b"all as written\n");
     }
-    if again {
-        line(kept, b" bytes kept, and appended to: ");
-    } else {
-        line(kept, b" bytes kept: ");
-    }
-    difference(what);
-}
-
-fn by_one(more: bool) {
-    if more {
-        text(b", one more: ");
-    } else {
-        text(b", one less: ");
-    }
+    count(kept);
+    either(again, b" bytes kept, and appended to: ", b" bytes kept: ");
+    compared(x);
 }
 
 // What the comparison says where one thing is wrong: of the walk of a cut, or of the walk after the append.
-pub fn wrong(name: &[u8], again: bool, more: bool, what: u8)
+pub fn wrong(name: &[u8], again: bool, more: bool, x: Result<(), Difference>)
     ensures { result ≡ tt }
 {
     text(b"wrong ");
@@ -109,6 +113,6 @@ pub fn wrong(name: &[u8], again: bool, more: bool, what: u8)
     if again {
         text(b" after the append");
     }
-    by_one(more);
-    difference(what);
+    either(more, b", one more: ", b", one less: ");
+    compared(x);
 }

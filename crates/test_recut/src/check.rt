@@ -1,136 +1,93 @@
 // One walk against what is due: each record stands at its place, then the end, and the summary says the same.
-use crate::due::{Cut, Due, Last, Wrong};
-use crate::{due, sums};
-use test_output::codes;
+use crate::due::{Cut, Due, Last, List, Stop, Thing};
+use test_output::recut::Difference;
 use test_text::part;
-use walk::{End, Record, Step, Summary};
+use walk::{End, Record, Step};
 
 // What the walk of s found, and where it goes on, against what is due.
-fn found(s: &[u8], r: Record, next: usize, due: Due, a: &[u8]) -> u8 {
-    let v = r.value;
+fn found(s: &[u8], r: Record, next: usize, due: Due, a: &[u8]) -> Result<(), Difference> {
     if r.place != due.place {
-        return codes::PLACE;
+        return Err(Difference::Place);
     }
     if r.tlv_type != due.tlv_type {
-        return codes::TYPE;
+        return Err(Difference::Type);
     }
-    if v.start != due.start || v.len != due.len {
-        return codes::SPAN;
+    if r.value.start != due.start || r.value.len != due.len {
+        return Err(Difference::Span);
     }
     if next != due.next {
-        return codes::NEXT;
+        return Err(Difference::Next);
     }
-    if !splice::same(r.value(s), part(a, due.from, sums::sum(due.from, due.len))) {
-        return codes::VALUE;
+    if r.value(s) != part(a, due.from, due.from.saturating_add(due.len)) {
+        return Err(Difference::Value);
     }
-    codes::NOTHING
+    Ok(())
 }
 
-// What differs where the walk of s is at a place, and a record is due.
-fn record(s: &[u8], place: usize, due: Due, a: &[u8]) -> u8 {
+// Compares what the walk of s has at a place, where a record is due.
+fn record(s: &[u8], place: usize, due: Due, a: &[u8]) -> Result<(), Difference> {
     match walk::step_at(s, place) {
-        Step::Record { record, next } => found(s, record, next, due, a),
-        Step::End(_) => codes::NO_RECORD,
-        Step::Refused(_) => codes::NO_RECORD,
+        Ok(Step::Record { record, next }) => found(s, record, next, due, a),
+        _ => Err(Difference::NoRecord),
     }
 }
 
-// What differs first where the first n records of a cut are due by the list w, each at the place where the one before it ends.
-fn records(s: &[u8], c: Cut, n: usize, w: Wrong, a: &[u8], ends: &[usize]) -> u8 {
+// Compares the first n records of a cut, which are due by the list, each at the place where the one before it ends.
+fn records(s: &[u8], c: Cut, n: usize, list: List) -> Result<(), Difference> {
     let mut place: usize = 0;
-    let mut i: usize = 0;
-    while i < n {
-        let due = c.record(i, place, a, ends);
-        let what = record(s, place, due.wrong(w, i), a);
-        if what != codes::NOTHING {
-            return what;
-        }
+    for i in 0..n {
+        let Some(due) = c.record(i, place, list) else {
+            return Err(Difference::NoRecord);
+        };
+        record(s, place, due.by(list, i), list.a)?;
         place = due.next;
-        i += 1;
     }
-    codes::NOTHING
+    Ok(())
 }
 
-// What a walk tells at its end: how many records it listed, their end, how many bytes that and what it left behind are, and whether it left nothing.
-#[derive(Clone, Copy)]
-pub struct Told {
-    pub count: usize,
-    pub place: usize,
-    pub bytes: usize,
-    pub whole: bool,
-}
-
-// What a walk that does not end tells: it is never right.
-const NO_END: Told = Told {
-    count: 0,
-    place: 0,
-    bytes: 1,
-    whole: true,
-};
-
-fn end_of(count: usize, e: End) -> Told {
+fn stop_of(e: End) -> Stop {
     match e {
-        End::Whole(place) => Told {
-            count,
+        End::Whole(place) => Stop {
             place,
             bytes: place,
             whole: true,
         },
-        End::Cut { place, behind } => Told {
-            count,
+        End::Cut { place, behind } => Stop {
             place,
-            bytes: sums::sum(place, behind),
+            bytes: place.saturating_add(behind),
             whole: false,
         },
     }
 }
 
-impl Told {
-    // Whether it is the end that is due.
-    fn right(self, due: Last) -> bool {
-        self.place == due.place && self.bytes == due.bytes && self.whole == due.whole
+// Compares the end of the walk of s, which is due by the list, and gives what the summary tells.
+fn ended(s: &[u8], last: Last, list: List) -> Result<Last, Difference> {
+    let Ok(Step::End(end)) = walk::step_at(s, last.stop.place) else {
+        return Err(Difference::End);
+    };
+    if stop_of(end) != last.by_step(list) {
+        return Err(Difference::End);
     }
+    let due = last.by_summary(list);
+    let Ok(summary) = walk::summary_of(s) else {
+        return Err(Difference::Count);
+    };
+    if summary.count != due.count {
+        return Err(Difference::Count);
+    }
+    let stop = stop_of(summary.end);
+    if stop != due.stop {
+        return Err(Difference::SummaryEnd);
+    }
+    Ok(Last {
+        count: summary.count,
+        stop,
+    })
 }
 
-// What the step at a place tells, where it is the end.
-fn step_end(s: &[u8], place: usize) -> Told {
-    match walk::step_at(s, place) {
-        Step::Record { record: _, next: _ } => NO_END,
-        Step::End(e) => end_of(0, e),
-        Step::Refused(_) => NO_END,
-    }
-}
-
-// What the summary tells.
-pub fn summary(s: &[u8]) -> Told {
-    match walk::summary_of(s) {
-        Summary::Counted { count, end } => end_of(count, end),
-        Summary::Refused(_) => NO_END,
-    }
-}
-
-// What differs at the end of the walk of s, which is due by the list w.
-fn ended(s: &[u8], last: Last, w: Wrong) -> u8 {
-    if !step_end(s, last.place).right(last.by_step(w)) {
-        return codes::END;
-    }
-    let t = summary(s);
-    let due = last.by_summary(w);
-    if t.count != due.count {
-        return codes::COUNT;
-    }
-    if !t.right(due) {
-        return codes::SUMMARY_END;
-    }
-    codes::NOTHING
-}
-
-// What differs first in the walk of s, where the records of a cut and then an end are due, by the list w.
-pub fn walked(s: &[u8], c: Cut, last: Last, w: Wrong, a: &[u8], ends: &[usize]) -> u8 {
-    let at_end = w.behind(last.count);
-    let what = records(s, c, at_end.number(due::RECORDS, last.count), w, a, ends);
-    if what != codes::NOTHING {
-        return what;
-    }
+// What differs first in the walk of s, where the records of a cut and then an end are due, by the list; or what its summary tells.
+pub fn walked(s: &[u8], c: Cut, last: Last, list: List) -> Result<Last, Difference> {
+    let at_end = list.of_end(last.count);
+    records(s, c, at_end.number(Thing::Records, last.count), list)?;
     ended(s, last, at_end)
 }

@@ -18,9 +18,9 @@
 // list each; the line names a difference if all three lists give it. All of them go through `Totals::tried`, as every cut of the sound list
 // does. No list tests the two comparisons of `cuts::written`.
 //
-// In all modules a is the journal as the list has it, laid out by counting, and ends are the ends of its records; b is the journal that is
+// In all modules a is the journal as the list has it, laid out by counting, and ends are the ends of its records: both are in the `List`. b is the journal that is
 // written, cut and appended to. The modules, from the input on: list (reads it), due (what is due of a walk by the list), check (one walk against
-// that), cuts (writes, cuts and appends), wrong (the lists that are wrong on purpose), say, sums. The crate test_output has
+// that), cuts (writes, cuts and appends), wrong (the lists that are wrong on purpose), say. The crate test_output has
 // the words.
 #![tactic(auto)]
 
@@ -29,14 +29,14 @@ mod cuts;
 mod due;
 mod list;
 mod say;
-mod sums;
 mod wrong;
 
 ghost use Rattle.std.specs.Prelude.{◌≡◌, length};
 
-use dump_io::{Failure, Input};
+use due::List;
+use dump_io::{Failure, room};
 use std::io::Stdout;
-use test_output::{codes, recut};
+use test_output::recut;
 use test_text::{checksum, part};
 
 // Room for the ends of the records. The clause is what lending the array as a slice needs.
@@ -46,45 +46,50 @@ fn ends_room() -> [usize; 32768]
     [0; 32768]
 }
 
-// Writes the journal that is listed, tries every cut of it, and then the lists that are wrong on purpose.
-fn run(out: &mut Stdout, a: &[u8], ends: &[usize], n: usize) -> std::io::Result<()> {
-    let mut b = io::large_buffer();
-    if !cuts::written(a, ends, &mut b) {
+// Writes the journal of n bytes that is listed, tries every cut of it, and then the lists that are wrong on purpose.
+fn run(out: &mut Stdout, list: List, n: usize) -> std::io::Result<()> {
+    let mut b = room::<65536>();
+    if !cuts::written(list, &mut b) {
         recut::not_written();
         return Ok(());
     }
     let sum = checksum(0, part(&b, 0, n));
-    recut::journal(ends.len(), n, sum as usize);
-    let t = cuts::all(a, ends, n, &mut b);
+    recut::journal(list.ends.len(), n, sum as usize);
+    let t = cuts::all(list, n, &mut b);
     say::tried(t);
-    if t.what != codes::NOTHING {
+    if t.what.is_err() {
         dump_io::list(part(&b, 0, t.walked), out)?;
     }
-    wrong::all(a, ends);
+    wrong::all(list);
     Ok(())
 }
 
 // Reads the list that is the text, and runs what it asks for.
 fn read(out: &mut Stdout, text: &[u8]) -> std::io::Result<()> {
-    let mut a = io::large_buffer();
+    let mut a = room::<65536>();
     let mut ends = ends_room();
-    let list = list::read(text, &mut a, &mut ends);
-    let count = list.count;
-    if list.bad || 65535 < text.len() {
-        recut::bad_list(list.at);
-        return Ok(());
+    match list::read(text, &mut a, &mut ends) {
+        Ok(reading) if text.len() < 65536 && reading.count <= ends.len() => {
+            let list = List {
+                a: &a,
+                ends: &ends[..reading.count],
+                wrong: None,
+            };
+            run(out, list, reading.place)
+        }
+        Ok(_) => {
+            recut::bad_list(text.len());
+            Ok(())
+        }
+        Err(at) => {
+            recut::bad_list(at);
+            Ok(())
+        }
     }
-    if 32768 < count {
-        recut::bad_list(list.at);
-        return Ok(());
-    }
-    run(out, &a, &ends[0..count], list.place)
 }
 
 fn main(rt: HostRuntime) -> Result<(), Failure> {
-    let mut text = io::large_buffer();
-    match dump_io::read_input(&mut rt.stdin(), &mut text) {
-        Input::Bytes(size) => read(&mut rt.stdout(), part(&text, 0, size)).map_err(Failure::Output),
-        Input::Failed(e) => Err(Failure::Input(e)),
-    }
+    let mut text = room::<65536>();
+    let size = dump_io::read_input(&mut rt.stdin(), &mut text).map_err(Failure::Input)?;
+    read(&mut rt.stdout(), part(&text, 0, size)).map_err(Failure::Output)
 }

@@ -10,39 +10,34 @@ mod tables;
 mod walker_rows;
 mod word;
 
-ghost use Rattle.std.specs.Prelude.{◌≡◌, length};
-
-use dump_io::{Failure, Input};
+use dump_io::{Failure, room};
+use lines::Rooms;
 use std::io::Stdout;
-use test_text::{part, room};
+use test_text::part;
 
 // The file descriptor of standard error.
 const STDERR: i32 = 2;
 
-// Room for the input, all of it. The clause is what lending the array as a slice needs.
-fn input_room() -> [u8; 524288]
-    ensures { 524288 ≡ length result }
-{
-    [0; 524288]
-}
+// Room for the input, all of it.
+const INPUT: usize = 524288;
 
 // Writes each line of standard input back, a case with its answers. An input that fills the room may be longer, and none of it is answered.
 fn run(out: &mut Stdout, input: &[u8]) -> std::io::Result<()> {
-    if input.len() == 524288 {
+    if input.len() == INPUT {
         io::write_all(STDERR, b"the input is too long\n");
         return Ok(());
     }
-    let mut a = room();
-    let mut b = room();
-    let mut held = room();
-    lines::run(out, input, &mut a, &mut b, &mut held)
+    let mut rooms = Rooms {
+        a: room(),
+        b: room(),
+        held: room(),
+    };
+    lines::run(out, input, &mut rooms)
 }
 
 // Of an input that cannot be read to its end nothing is answered.
 fn main(rt: HostRuntime) -> Result<(), Failure> {
-    let mut input = input_room();
-    match dump_io::read_input(&mut rt.stdin(), &mut input) {
-        Input::Bytes(n) => run(&mut rt.stdout(), part(&input, 0, n)).map_err(Failure::Output),
-        Input::Failed(e) => Err(Failure::Input(e)),
-    }
+    let mut input = room::<INPUT>();
+    let n = dump_io::read_input(&mut rt.stdin(), &mut input).map_err(Failure::Input)?;
+    run(&mut rt.stdout(), part(&input, 0, n)).map_err(Failure::Output)
 }

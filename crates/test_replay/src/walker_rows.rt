@@ -2,8 +2,9 @@
 // module of their own, which hands on as this one does.
 use crate::tables;
 use std::io::{Result, Stdout};
+use test_answers::Say;
 use test_output::numbered;
-use test_text::{Words, is_row, part};
+use test_text::{Call, part};
 
 // A walker: how many bytes it goes over, which stand at the front of held, and its place.
 #[derive(Clone, Copy)]
@@ -18,20 +19,20 @@ pub(crate) fn new() -> State {
 }
 
 fn made(a: &[u8], at: usize, held: &mut [u8]) -> State {
-    splice::put(held, 0, a);
+    // held has room for all bytes that a call has
+    let _ = splice::put(held, 0, a);
     numbered(b"at ", at);
     State { len: a.len(), at }
 }
 
 fn look(state: State, src: &[u8]) -> State {
-    test_answers::step(test_walker::look_at(src, state.at));
+    test_walker::look_at(src, state.at).say();
     state
 }
 
 fn step(state: State, src: &[u8]) -> State {
     let stepped = test_walker::step_at(src, state.at);
-    let step = stepped.step;
-    test_answers::step(step);
+    stepped.step.say();
     numbered(b", at ", stepped.at);
     State {
         len: state.len,
@@ -39,29 +40,20 @@ fn step(state: State, src: &[u8]) -> State {
     }
 }
 
-// Makes a call, says what it answers, and answers the state after. key, left, w, a and b are as `test_formats::say` has them, and the rows too; out is as `tables::say` has it.
-pub(crate) fn say(
-    out: &mut Stdout,
-    state: State,
-    key: &[u8],
-    left: Words,
-    w: Words,
-    a: &[u8],
-    b: &[u8],
-    held: &mut [u8],
-) -> Result<State> {
-    if is_row(key, b"walker.new X") {
-        return Ok(made(a, test_walker::new_at(a), held));
+// Makes a call, says what it answers, and answers the state after; out is as `tables::say` has it.
+pub(crate) fn say(out: &mut Stdout, state: State, call: &Call, held: &mut [u8]) -> Result<State> {
+    if call.is(b"walker.new X") {
+        return Ok(made(call.a, test_walker::new_at(call.a), held));
     }
-    if is_row(key, b"walker.made XN") {
-        return Ok(made(a, w.n9, held));
+    if call.is(b"walker.made XN") {
+        return Ok(made(call.a, call.w[8], held));
     }
-    if is_row(key, b"walker.look") {
+    if call.is(b"walker.look") {
         return Ok(look(state, part(held, 0, state.len)));
     }
-    if is_row(key, b"walker.step") {
+    if call.is(b"walker.step") {
         return Ok(step(state, part(held, 0, state.len)));
     }
-    tables::say(out, key, left, w, a, b)?;
+    tables::say(out, call)?;
     Ok(state)
 }

@@ -1,93 +1,94 @@
 // A word of a call, read: its letter, and the numbers that it stands for.
-use test_text::{Read, decimal, find, part};
+use lv::Lv;
+use test_text::{Words, decimal, find, part};
 
-// The letters: A is a number up to 8, O one up to 255, N any other; T a standard type, F a custom one; M a second name; X bytes, which are read elsewhere. NONE is no word.
-const NONE: u8 = b'!';
-
-// x is the number; that of a custom type is 256 more than its label. Of a second name it is 1 where it is there, and then start and len are its span.
+// A number up to 8 is Small, one up to 255 an Octet, any other a Number; Standard and Custom are types, Bytes are read elsewhere.
 #[derive(Clone, Copy)]
-pub struct Word {
-    pub letter: u8,
-    pub x: usize,
-    pub start: usize,
-    pub len: usize,
+pub enum Word {
+    Small(usize),
+    Octet(usize),
+    Number(usize),
+    Standard(usize),
+    Custom(usize),
+    Second(Option<Lv>),
+    Bytes,
 }
 
-fn of(letter: u8, x: usize) -> Word {
-    Word {
-        letter,
-        x,
-        start: 0,
-        len: 0,
+// The words with one more number.
+fn with(mut w: Words, x: usize) -> Words {
+    w.rotate_left(1);
+    w[8] = x;
+    w
+}
+
+impl Word {
+    // Its letter in a key.
+    pub fn letter(self) -> u8 {
+        match self {
+            Word::Small(_) => b'A',
+            Word::Octet(_) => b'O',
+            Word::Number(_) => b'N',
+            Word::Standard(_) => b'T',
+            Word::Custom(_) => b'F',
+            Word::Second(_) => b'M',
+            Word::Bytes => b'X',
+        }
+    }
+
+    // The words with its numbers behind. That of a custom type is 256 more than its label. A second name has three: 1 where it is there, and its span.
+    pub fn behind(self, w: Words) -> Words {
+        match self {
+            Word::Small(x) | Word::Octet(x) | Word::Number(x) | Word::Standard(x) => with(w, x),
+            Word::Custom(x) => with(w, x.saturating_add(256)),
+            Word::Second(Some(name)) => with(with(with(w, 1), name.start), name.len),
+            Word::Second(None) => with(with(with(w, 0), 0), 0),
+            Word::Bytes => w,
+        }
     }
 }
 
-fn number(text: &[u8]) -> Word {
-    let Read::Is(x) = decimal(text) else {
-        return of(NONE, 0);
-    };
+fn number(text: &[u8]) -> Option<Word> {
+    let x = decimal(text)?;
     match x {
-        0..=8 => of(b'A', x),
-        9..=255 => of(b'O', x),
-        _ => of(b'N', x),
+        0..=8 => Some(Word::Small(x)),
+        9..=255 => Some(Word::Octet(x)),
+        _ => Some(Word::Number(x)),
     }
 }
 
-fn standard(text: &[u8]) -> Word {
-    let Read::Is(x) = decimal(text) else {
-        return of(NONE, 0);
-    };
+fn standard(text: &[u8]) -> Option<Word> {
+    let x = decimal(text)?;
     match x {
-        0 | 1 | 2 | 4 | 5 | 6 => of(b'T', x),
-        _ => of(NONE, 0),
+        0 | 1 | 2 | 4 | 5 | 6 => Some(Word::Standard(x)),
+        _ => None,
     }
 }
 
-fn custom(text: &[u8]) -> Word {
-    let Read::Is(x) = decimal(text) else {
-        return of(NONE, 0);
-    };
+fn custom(text: &[u8]) -> Option<Word> {
+    let x = decimal(text)?;
     match x {
-        0..=255 => of(b'F', x + 256),
-        _ => of(NONE, 0),
+        0..=255 => Some(Word::Custom(x)),
+        _ => None,
     }
 }
 
 // A second name's span: its start and its length.
-fn second(start: &[u8], len: &[u8]) -> Word {
-    let Read::Is(start) = decimal(start) else {
-        return of(NONE, 0);
-    };
-    let Read::Is(len) = decimal(len) else {
-        return of(NONE, 0);
-    };
-    Word {
-        letter: b'M',
-        x: 1,
-        start,
-        len,
-    }
+fn second(start: &[u8], len: &[u8]) -> Option<Word> {
+    let start = decimal(start)?;
+    let len = decimal(len)?;
+    Some(Word::Second(Some(Lv { start, len })))
 }
 
-fn absent(text: &[u8]) -> Word {
-    if text.len() == 1 {
-        return of(b'M', 0);
-    }
-    of(NONE, 0)
-}
-
-pub(crate) fn read(text: &[u8]) -> Word {
-    if text.len() == 0 {
-        return of(NONE, 0);
-    }
-    let plus = find(text, b'+', 0);
-    let sign = text[0];
-    match sign {
-        b'x' => of(b'X', 0),
-        b's' => standard(&text[1..]),
-        b'c' => custom(&text[1..]),
-        b'-' => absent(text),
+// None where a text is no word.
+pub(crate) fn read(text: &[u8]) -> Option<Word> {
+    match text {
+        [b'x', ..] => Some(Word::Bytes),
+        [b's', digits @ ..] => standard(digits),
+        [b'c', digits @ ..] => custom(digits),
+        [b'-'] => Some(Word::Second(None)),
+        [b'-', ..] => None,
         _ => {
+            let plus = find(text, b'+', 0);
             if plus < text.len() {
                 second(part(text, 0, plus), part(text, plus + 1, text.len()))
             } else {

@@ -1,11 +1,11 @@
 -- The definitions at work on texts as they stand in the inputs, and at their edges: each is computed. Assumes nothing.
+use Rattle.std.proofs.Common.{Some, None}
 use mathlib.Core.Path.{◌≡◌, refl}
 use Prim.Native.Nat.{ℕ}
 use Prim.Native.Char.{code}
 use Prim.Native.String.{String, [] as []ˢ, ◌∷◌ as ◌∷ˢ◌}
 use mathlib.Core.Bool.{true, false}
 use mathlib.Core.List.{List, [], ◌∷◌}
-use Rattle.test_text.specs.declared.Read.TheVariants.{Is, No}
 use Rattle.test_text.specs.Text.{
   before,
   digit,
@@ -14,7 +14,6 @@ use Rattle.test_text.specs.Text.{
   no_case,
   stands_for,
   of_row,
-  pick,
   digits,
   number,
   number_on,
@@ -22,7 +21,7 @@ use Rattle.test_text.specs.Text.{
   sum_on,
   sum_of,
 }
-use Rattle.test_text.specs.Notation.{these, none, either, then, pair_of, pairs_of, times_of, counted, count_of, piece_at, piece_of, on_first, split, all_of, pieces_of, bytes_of}
+use Rattle.test_text.specs.Notation.{then, pair_of, pairs_of, times_of, counted, count_of, piece_at, piece_of, all_of, pieces_of, bytes_of}
 
 abbrev ascii : String → List ℕ
 ascii []ˢ = []
@@ -48,18 +47,18 @@ rows : (of_row (ascii "lv.value AOX") (ascii "lv.value NNX") ≡ true) × (of_ro
 unfolding of_row stands_for
 rows = (refl, refl, refl, refl, refl)
 
-decimals : (decimal_of (ascii "0255") ≡ Is 255) × (decimal_of [] ≡ No) × (decimal_of (ascii "1a") ≡ No) × (decimal_of (ascii "18446744073709551615") ≡ Is 18446744073709551615) × (decimal_of (ascii "18446744073709551616") ≡ No)
-unfolding decimal_of number_on number digits digit pick
+decimals : (decimal_of (ascii "0255") ≡ Some 255) × (decimal_of [] ≡ None) × (decimal_of (ascii "1a") ≡ None) × (decimal_of (ascii "18446744073709551615") ≡ Some 18446744073709551615) × (decimal_of (ascii "18446744073709551616") ≡ None)
+unfolding decimal_of number_on number digits digit
 decimals = (refl, refl, refl, refl, refl)
 
 sums : (sum_of 4294967291 [] ≡ 0) × (sum_of 1 (0 ∷ 7 ∷ []) ≡ 66314)
 unfolding sum_of sum_on
 sums = (refl, refl)
 
-said : (bytes_of (ascii "x") ≡ these []) × (bytes_of (ascii "x05.00*3") ≡ these (5 ∷ 0 ∷ 0 ∷ 0 ∷ [])) × (bytes_of (ascii "x0501aA.0500*2") ≡ these (5 ∷ 1 ∷ 170 ∷ 5 ∷ 0 ∷ 5 ∷ 0 ∷ [])) × (bytes_of (ascii "x05.00*0.ff") ≡ these (5 ∷ 255 ∷ []))
-unfolding bytes_of pieces_of all_of split on_first piece_of piece_at count_of counted times_of pairs_of pair_of then either before digit decimal_of number_on number digits pick
+said : (bytes_of (ascii "x") ≡ Some []) × (bytes_of (ascii "x05.00*3") ≡ Some (5 ∷ 0 ∷ 0 ∷ 0 ∷ [])) × (bytes_of (ascii "x0501aA.0500*2") ≡ Some (5 ∷ 1 ∷ 170 ∷ 5 ∷ 0 ∷ 5 ∷ 0 ∷ [])) × (bytes_of (ascii "x05.00*0.ff") ≡ Some (5 ∷ 255 ∷ []))
+unfolding bytes_of pieces_of all_of piece_of piece_at count_of counted times_of pairs_of pair_of then before digit decimal_of number_on number digits
 said = (refl, refl, refl, refl)
 
-unsaid : (bytes_of [] ≡ none) × (bytes_of (ascii "05") ≡ none) × (bytes_of (ascii "x0") ≡ none) × (bytes_of (ascii "x05.") ≡ none) × (bytes_of (ascii "x*3") ≡ none) × (bytes_of (ascii "x05*") ≡ none) × (bytes_of (ascii "x0g*0") ≡ none) × (bytes_of (ascii "x05*2*2") ≡ none)
-unfolding bytes_of pieces_of all_of split on_first piece_of piece_at count_of counted times_of pairs_of pair_of then either before digit decimal_of number_on number digits pick
+unsaid : (bytes_of [] ≡ None) × (bytes_of (ascii "05") ≡ None) × (bytes_of (ascii "x0") ≡ None) × (bytes_of (ascii "x05.") ≡ None) × (bytes_of (ascii "x*3") ≡ None) × (bytes_of (ascii "x05*") ≡ None) × (bytes_of (ascii "x0g*0") ≡ None) × (bytes_of (ascii "x05*2*2") ≡ None)
+unfolding bytes_of pieces_of all_of piece_of piece_at count_of counted times_of pairs_of pair_of then before digit decimal_of number_on number digits
 unsaid = (refl, refl, refl, refl, refl, refl, refl, refl)

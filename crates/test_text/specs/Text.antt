@@ -1,7 +1,5 @@
 -- What the steps on text answer.
-use Rattle.std.specs.Prelude.{ℕ, ◌+◌, ◌-◌, ◌*◌, ◌%◌, Bool, true, false, cond, ◌&&◌, ◌||◌, List, [], ◌∷◌, length, take, drop, eqb, leb, ltb}
-use Rattle.test_text.specs.declared.Read.{Read}
-use Rattle.test_text.specs.declared.Read.TheVariants.{Is, No}
+use Rattle.std.specs.Prelude.{ℕ, ◌+◌, ◌-◌, ◌*◌, ◌%◌, Bool, true, false, cond, ◌&&◌, ◌||◌, List, [], ◌∷◌, length, take, drop, eqb, leb, ltb, Option, Some, None}
 
 -- the number of a hexadecimal digit, 0 to 9, a to f or A to F; 16 for any other byte
 unfoldable pub digit : ℕ → ℕ
@@ -9,6 +7,10 @@ digit x =
     cond (leb 48 x && leb x 57)
     (x - 48)
     (cond (leb 97 x && leb x 102) (x - 87) (cond (leb 65 x && leb x 70) (x - 55) 16))
+
+-- the same, or None for a byte that is no hexadecimal digit
+abbrev pub nibble_of : ℕ → Option ℕ
+nibble_of x = cond (leb (digit x) 15) (Some (digit x)) None
 
 -- the bytes from `start` up to `end`, none where they pass the end of s
 unfoldable pub stretch : ℕ → ℕ → List ℕ → List ℕ
@@ -54,10 +56,6 @@ of_row (k ∷ ks) (r ∷ rs) = stands_for r k && of_row ks rs
 
 -- ---- DECIMAL NUMBERS
 
-unfoldable pub pick : Bool → Read → Read → Read
-pick true a b = a
-pick false a b = b
-
 -- the largest usize
 abbrev pub largest : ℕ
 largest = 18446744073709551615
@@ -73,16 +71,16 @@ number x [] = x
 number x (b ∷ bs) = number (x * 10 + digit b) bs
 
 -- what decimal digits behind those of x say, where all are digits and the number is no larger than a usize
-unfoldable pub number_on : ℕ → List ℕ → Read
-number_on x s = pick (digits s && leb (number x s) largest) (Is (number x s)) No
+unfoldable pub number_on : ℕ → List ℕ → Option ℕ
+number_on x s = cond (digits s && leb (number x s) largest) (Some (number x s)) None
 
 -- one digit behind those of x
-abbrev pub with_digit : ℕ → ℕ → Read
+abbrev pub with_digit : ℕ → ℕ → Option ℕ
 with_digit x b = number_on x (b ∷ [])
 
 -- decimal digits, one or more
-unfoldable pub decimal_of : List ℕ → Read
-decimal_of [] = No
+unfoldable pub decimal_of : List ℕ → Option ℕ
+decimal_of [] = None
 decimal_of (b ∷ bs) = number_on 0 (b ∷ bs)
 
 -- ---- A CHECKSUM

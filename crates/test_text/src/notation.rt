@@ -1,127 +1,80 @@
-// The notation of bytes, read piece by piece into a buffer. Each function answers the place behind the bytes that it stored, or No.
-ghost use Rattle.std.specs.Prelude.{◌≡◌, ◌≤◌, length, drop};
+// The notation of bytes, read piece by piece into a buffer. Each function stores bytes at the front of what it is lent, and answers how many, or None.
+ghost use Rattle.std.specs.Prelude.{◌≡◌, drop};
 ghost use Rattle.test_text.specs.Notation.{pair_of, pairs_of, is_bytes, times_of, count_of, piece_of, pieces_of, Left};
 
-use crate::{Read, decimal, find, nibble, part};
+use crate::{decimal, find, nibble, part};
 
 // Stores the byte that two hexadecimal digits say.
-fn pair(high: u8, low: u8, buf: &mut [u8], at: usize) -> Read
-    ensures { Left (pair_of high low) at buf.old result buf.new }
+fn pair(high: u8, low: u8, buf: &mut [u8]) -> Option<usize>
+    ensures { Left (pair_of high low) 0 buf.old result buf.new }
 {
-    let a = nibble(high);
-    let b = nibble(low);
-    if 15 < a {
-        return Read::No;
-    }
-    if 15 < b {
-        return Read::No;
-    }
-    if buf.len() <= at {
-        return Read::No;
-    }
-    buf[at] = a * 16 + b;
-    Read::Is(at + 1)
+    let a = nibble(high)?;
+    let b = nibble(low)?;
+    *buf.first_mut()? = a * 16 + b;
+    Some(1)
 }
 
 // Stores the bytes that pairs of hexadecimal digits say.
-fn pairs(text: &[u8], buf: &mut [u8], at: usize) -> Read
-    requires { at ≤ length buf.old }
-    ensures { Left (pairs_of text.now) at buf.old result buf.new }
+fn pairs(text: &[u8], buf: &mut [u8]) -> Option<usize>
+    ensures { Left (pairs_of text.now) 0 buf.old result buf.new }
 {
-    let mut n = at;
-    let mut i: usize = 0;
-    while i < text.len() {
-        if text.len() - i < 2 {
-            return Read::No;
-        }
-        match pair(text[i], text[i + 1], buf, n) {
-            Read::Is(m) => n = m,
-            Read::No => return Read::No,
-        }
-        i += 2;
+    let mut n: usize = 0;
+    let mut rest = text;
+    while let Some(([high, low], behind)) = rest.split_first_chunk::<2>() {
+        n += pair(*high, *low, &mut buf[n..])?;
+        rest = behind;
     }
-    Read::Is(n)
+    if rest.is_empty() { Some(n) } else { None }
 }
 
 // Whether a text is pairs of hexadecimal digits.
 fn are_pairs(text: &[u8]) -> bool
     ensures { result ≡ is_bytes (pairs_of text.now) }
 {
-    let mut i: usize = 0;
-    while i < text.len() {
-        if text.len() - i < 2 {
-            return false;
-        }
-        if 15 < nibble(text[i]) {
-            return false;
-        }
-        if 15 < nibble(text[i + 1]) {
-            return false;
-        }
-        i += 2;
-    }
-    true
+    text.len() % 2 == 0 && text.iter().all(|x| nibble(*x).is_some())
 }
 
 // Stores the bytes of pairs so many times.
-fn times(count: usize, text: &[u8], buf: &mut [u8], at: usize) -> Read
-    requires { at ≤ length buf.old }
-    ensures { Left (times_of count (pairs_of text.now)) at buf.old result buf.new }
+fn times(count: usize, text: &[u8], buf: &mut [u8]) -> Option<usize>
+    ensures { Left (times_of count (pairs_of text.now)) 0 buf.old result buf.new }
 {
-    let mut n = at;
-    let mut left = count;
-    while 0 < left {
-        match pairs(text, buf, n) {
-            Read::Is(m) => n = m,
-            Read::No => return Read::No,
-        }
-        left -= 1;
+    let mut n: usize = 0;
+    for i in 0..count {
+        n += pairs(text, &mut buf[n..])?;
     }
-    Read::Is(n)
+    Some(n)
 }
 
 // The count of a piece whose pairs end at a place: 1 where nothing is behind them.
-fn count(text: &[u8], at: usize) -> Read
+#[tactic(auto, using(crate::proofs::Reading::count_none, crate::proofs::Reading::count_some))]
+fn count(text: &[u8], at: usize) -> Option<usize>
     ensures { result ≡ count_of (drop at text.now) }
 {
     if text.len() <= at {
-        return Read::Is(1);
+        return Some(1);
     }
     decimal(&text[at + 1..])
 }
 
 // Stores the bytes of a piece.
-fn piece(text: &[u8], buf: &mut [u8], at: usize) -> Read
-    requires { at ≤ length buf.old }
-    ensures { Left (piece_of text.now) at buf.old result buf.new }
+fn piece(text: &[u8], buf: &mut [u8]) -> Option<usize>
+    ensures { Left (piece_of text.now) 0 buf.old result buf.new }
 {
     let star = find(text, b'*', 0);
-    if star == 0 {
-        return Read::No;
-    }
     let digits = part(text, 0, star);
-    if !are_pairs(digits) {
-        return Read::No;
+    if star == 0 || !are_pairs(digits) {
+        return None;
     }
-    match count(text, star) {
-        Read::Is(c) => times(c, digits, buf, at),
-        Read::No => Read::No,
-    }
+    times(count(text, star)?, digits, buf)
 }
 
 // Stores the bytes of pieces with a `.` between them.
-pub(crate) fn pieces(text: &[u8], buf: &mut [u8]) -> Read
+pub(crate) fn pieces(text: &[u8], buf: &mut [u8]) -> Option<usize>
     ensures { Left (pieces_of text.now) 0 buf.old result buf.new }
 {
     let mut n: usize = 0;
-    let mut i: usize = 0;
-    while i <= text.len() {
-        let end = find(text, b'.', i);
-        match piece(part(text, i, end), buf, n) {
-            Read::Is(m) => n = m,
-            Read::No => return Read::No,
-        }
-        i = end + 1;
+    for text in text.split(|x| *x == b'.') {
+        n += piece(text, &mut buf[n..])?;
     }
-    Read::Is(n)
+    Some(n)
 }

@@ -6,6 +6,7 @@ ghost use Rattle.std.specs.Prelude.{◌≡◌};
 ghost use Rattle.walk.specs.Rules.{step_at, after_of};
 ghost use Rattle.walk.specs.Told.{told_step};
 
+use refusal::Refusal;
 use walk::Step;
 use walker::Walker;
 
@@ -13,22 +14,20 @@ use walker::Walker;
 pub fn new_at(src: &[u8]) -> usize
     ensures { result ≡ 0 }
 {
-    let w = Walker::new(src);
-    w.at
+    Walker::new(src).at
 }
 
 // What a walker of src that stands at a place sees. 14, then 15.
-pub fn look_at(src: &[u8], at: usize) -> Step
+pub fn look_at(src: &[u8], at: usize) -> Result<Step, Refusal>
     ensures { told_step result ≡ step_at src.now at }
 {
-    let w = Walker { src, at };
-    w.look()
+    Walker { src, at }.look()
 }
 
 // What a walker's step answers, and where the step leaves it.
 #[derive(Clone, Copy)]
 pub struct Stepped {
-    pub step: Step,
+    pub step: Result<Step, Refusal>,
     pub at: usize,
 }
 

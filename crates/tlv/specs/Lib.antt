@@ -1,5 +1,4 @@
 -- The definitions of this crate.
 pub mod Kinds
 pub mod Rules
-pub mod Told
 pub mod Short

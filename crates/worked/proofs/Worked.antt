@@ -29,6 +29,6 @@ unfolding limit_test be_from part_of take_lv read_lv take_tlv read_tlv take_of
     walk_on walk front step_at summary_of
 worked r m = each (λ (x : Row). answer_of x.call x.bytes) (λ (x : Row). x.answer) m refl
 
--- The same for the calls: any answer that the contract of a row's call allows, told as the contract tells it (`told_lv answer`, ..), is the row's.
+-- The same for the calls: any answer that the contract of a row's call allows, told as the contract tells it (`told answer`, ..), is the row's.
 pub worked_calls : (r : Row) → Memᴰ r table → (told : Answer (Given r.call)) → told ≡ rule r.call r.bytes → said r.call told r.bytes ≡ r.answer
 worked_calls r m told e = ap (λ a. said r.call a r.bytes) e ∙ worked r m

@@ -1,5 +1,5 @@
 -- The calls that read, and what each answers when it is lent some bytes, in one type for all of them: the words of document 01's examples.
-use Rattle.std.specs.Prelude.{ℕ, List}
+use Rattle.std.specs.Prelude.{ℕ, List, Option, None, Some}
 use Rattle.bluebook.specs.Layouts.{Entity}
 use Rattle.refusal.specs.Answer.{Answer, map_answer}
 use Rattle.lv.specs.Rules.{part_of, read_lv}
@@ -9,8 +9,6 @@ use Rattle.tlv.specs.declared.Tlv.{Tlv}
 use Rattle.tlv.specs.declared.TlvTypeField.{TlvTypeField}
 use Rattle.entity_id.specs.Rules.{read_entity}
 use Rattle.action.specs.declared.FilestoreActionCode.{FilestoreActionCode}
-use Rattle.filestore_base.specs.declared.SecondName.{SecondName}
-use Rattle.filestore_base.specs.declared.SecondName.TheVariants.{There, Absent}
 use Rattle.filestore_request.specs.Rules.{read_request, strict_request}
 use Rattle.filestore_request.specs.declared.FilestoreRequestTlv.{FilestoreRequestTlv}
 use Rattle.filestore_response.specs.Rules.{read_response}
@@ -41,8 +39,8 @@ Given request_strict = FilestoreRequestTlv
 Given (step place) = Standing
 Given summary = Summed
 
--- The rule that its contract cites: the call answers an r of its own enum, and its contract is `told r ≡ rule call bytes`. So what the rule
--- answers of some bytes is what the call answers of them, and nothing else.
+-- The rule that its contract cites: the call answers an r, and its contract is `told r ≡ rule call bytes`, or the like. So what the rule answers of
+-- some bytes is what the call answers of them, and nothing else.
 abbrev pub rule : (call : Call) → List ℕ → Answer (Given call)
 rule lv bs = read_lv bs
 rule tlv bs = read_tlv bs
@@ -74,9 +72,9 @@ pub data Said : Type 0 where
 abbrev pub part_at : Lv → List ℕ → Part
 part_at l bs = part l.start l.len (part_of l bs)
 
-abbrev pub part_if : SecondName → List ℕ → Part
-part_if (There l) bs = part_at l bs
-part_if Absent bs = absent
+abbrev pub part_if : Option Lv → List ℕ → Part
+part_if (Some l) bs = part_at l bs
+part_if None bs = absent
 
 abbrev pub says_request : FilestoreRequestTlv → List ℕ → Said
 says_request q bs = requests q.action_code (part_at q.first_name bs) (part_if q.second_name bs)

@@ -39,7 +39,7 @@ const SOURCES: [&str; 12] = [
 pub fn calls() -> &'static BTreeMap<&'static str, &'static str> {
     static CALLS: OnceLock<BTreeMap<&str, &str>> = OnceLock::new();
     CALLS.get_or_init(|| {
-        let rows = SOURCES.iter().flat_map(|source| source.split("is_row(key, b\"").skip(1)).filter_map(|row| row.split('"').next());
+        let rows = SOURCES.iter().flat_map(|source| source.split("call.is(b\"").skip(1)).filter_map(|row| row.split('"').next());
         rows.map(|row| row.split_once(' ').unwrap_or((row, ""))).collect()
     })
 }

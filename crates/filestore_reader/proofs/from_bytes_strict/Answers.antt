@@ -1,27 +1,28 @@
 -- `from_bytes_strict` meets its contract: plain reading, and then the tests of what was found. Assumes nothing.
 use mathlib.Core.Path.{◌≡◌, sym, ap, ◌∙◌}
 use Rattle.refusal.specs.Answer.{Answer, and_then}
-use Rattle.refusal.specs.Told.{told_checked}
-use Rattle.refusal.proofs.Laws.{also_refused, also_passed}
+use Rattle.refusal.proofs.Laws.{passed_on, also_refused, also_passed}
 use Rattle.filestore_reader.specs.declared.Found.{Found}
-use Rattle.filestore_reader.specs.declared.FoundRead.{FoundRead}
 use Rattle.filestore_reader.proofs.Laws.{strictly, strict_base_is}
 use Rattle.filestore_reader.specs.Rules.{strict_base}
-use Rattle.filestore_reader.specs.Told.{told_found}
 use Rattle.filestore_reader.proofs.from_bytes_strict.Goals as goal
-use Rattle.filestore_reader.proofs.from_bytes_strict.Goals.{After-from_bytes}
+use Rattle.filestore_reader.proofs.from_bytes_strict.Goals.{In_ok-found}
 
--- what plain reading told, by the arm that it led to
-told : (c : After-from_bytes) (x : FoundRead) → c.from_bytes.result ≡ x → (let a = c.args in and_then (told_found x) (strictly a.response) ≡ strict_base a.response a.buf.now)
-told c x e = ap (λ (y : Answer Found). and_then y (strictly c.args.response)) (sym (ap told_found e) ∙ c.from_bytes.ensures) ∙ strict_base_is _ _
+-- behind plain reading
+strict : (c : In_ok-found) → (let a = c.args in strictly a.response c.in_ok-found.found ≡ strict_base a.response a.buf.now)
+strict c = ap (λ (y : Answer Found). and_then y (strictly c.args.response)) c.in_ok-found.ensures ∙ strict_base_is _ _
 
-pub returns-in-Refused : goal.returns-in-Refused
-returns-in-Refused c = told (goal.at.returns-in-Refused c).After-from_bytes _ c.in-Refused.is
+pub returns-in_err-found : goal.returns-in_err-found
+returns-in_err-found c =
+    passed_on _ _ c.from_residual.ensures.1
+    ∙ ap (λ (y : Answer Found). and_then y (strictly c.args.response)) c.in_err-found.ensures
+    ∙ strict_base_is _ _
 
-pub returns-in-Refused-strict_test : goal.returns-in-Refused-strict_test
-returns-in-Refused-strict_test c =
-    also_refused _ _ _ _ (sym (ap told_checked c.in-Refused-strict_test.is) ∙ c.strict_test.ensures) ∙ told (goal.at.returns-in-Refused-strict_test c).After-from_bytes _ c.in-Read.is
+pub returns-in_err-strict_test : goal.returns-in_err-strict_test
+returns-in_err-strict_test c =
+    passed_on _ _ c.from_residual-in_err-strict_test.ensures.1
+    ∙ also_refused _ _ _ _ c.in_err-strict_test.ensures
+    ∙ strict (goal.at.returns-in_err-strict_test c).In_ok-found
 
-pub returns-in-Fine : goal.returns-in-Fine
-returns-in-Fine c =
-    sym (also_passed _ _ (sym (ap told_checked c.in-Fine.is) ∙ c.strict_test.ensures)) ∙ told (goal.at.returns-in-Fine c).After-from_bytes _ c.in-Read.is
+pub returns : goal.returns
+returns c = sym (also_passed _ _ c.in_ok-strict_test.ensures) ∙ strict (goal.at.returns c).In_ok-found

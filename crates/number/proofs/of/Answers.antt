@@ -3,14 +3,22 @@ use mathlib.Core.Path.{◌≡◌, ap, ◌∙◌}
 use Prim.Native.Nat.{◌+◌, ◌-◌}
 use native.Mathlib.Omega.{arith}
 use lib.ListN.{length, replicate}
-use Rattle.splice.proofs.Writing.{wrote_laid}
+use borrow.Rule.Slice.PartMut.{put_mid}
+use Rattle.splice.specs.Laid.{laid}
+use Rattle.splice.proofs.Laws.{laid_over, length-laid}
 use Rattle.number.specs.Rules.{of_be}
-use Rattle.number.proofs.Laws.{of_be_behind}
+use Rattle.number.proofs.Laws.{of_be_behind, of_be_eight}
 use Rattle.number.proofs.of.Goals as goal
 
 pub returns : goal.returns
 returns c =
-    let p = c in
-    let v = p.args.v.now in
-    let n : 8 - length v + length v ≡ 8 = omega arith in
-    c.digits.ensures ∙ ap of_be (wrote_laid (8 - length v) v (replicate 8 0) _ (omega arith) p.put.ensures) ∙ of_be_behind (8 - length v) 8 v n
+    let v = c.args.v.now in
+    let m = 8 - length v in
+    let n : m + length v ≡ 8 = omega arith in
+    let k : 8 - m ≡ m + length v - m = omega arith in
+    let e : put_mid m (8 - m) (replicate 8 0) c.copy_from_slice.new.self ≡ laid m v (replicate 8 0) =
+    (λ i. put_mid m (k i) (replicate 8 0) (c.copy_from_slice.ensures.after i)) ∙ laid_over m v (replicate 8 0) in
+    c.from_be_bytes.ensures
+    ∙ of_be_eight (put_mid m (8 - m) (replicate 8 0) c.copy_from_slice.new.self) (ap length e ∙ length-laid m v (replicate 8 0) (omega arith))
+    ∙ ap of_be e
+    ∙ of_be_behind m 8 v n

@@ -5,7 +5,7 @@ use Rattle.repair.proofs.Theorems.{response_appended}
 use Rattle.repair_cut.proofs.respond.Goals as goal
 
 pub slice_bounds-list-end : goal.slice_bounds-list-end
-slice_bounds-list-end c = (response_appended _ _ _ _ _ _ (rw c.in-Bytes.is at c.append_response.ensures)).inside
+slice_bounds-list-end c = (response_appended _ _ _ _ _ _ c.in-Ok.ensures).inside
 
-pub slice_bounds-list-end-in-Bytes : goal.slice_bounds-list-end-in-Bytes
-slice_bounds-list-end-in-Bytes c = sym (length-take-le _ _ (response_appended _ _ _ _ _ _ (rw c.in-Bytes.is at c.append_response.ensures)).inside)
+pub slice_bounds-list-end-in-Ok : goal.slice_bounds-list-end-in-Ok
+slice_bounds-list-end-in-Ok c = sym (length-take-le _ _ (response_appended _ _ _ _ _ _ c.in-Ok.ensures).inside)

@@ -1,7 +1,7 @@
--- `splice::same` meets its contract: lists of two lengths differ, and else the first and the last bytes are compared. Assumes nothing.
-use mathlib.Core.Path.{sym}
-use Rattle.splice.proofs.Laws.{same_lengths}
+-- `splice::same` meets its contract: `==` of two slices compares them byte by byte. Assumes nothing.
+use mathlib.Core.Path.{sym, ◌∙◌}
+use Rattle.splice.proofs.Laws.{same_pointwise}
 use Rattle.splice.proofs.same.Goals as goal
 
-pub returns-then-n-b : goal.returns-then-n-b
-returns-then-n-b c = sym (same_lengths _ _ c.if-n-b.true)
+pub returns : goal.returns
+returns c = c.eq.ensures ∙ sym (same_pointwise c.args.a.now c.args.b.now)

@@ -1,17 +1,16 @@
--- `test_text::find` meets its contract: no byte that is passed is the one looked for, so the place and the count of bytes still to be passed keep their sum.
--- What is left of the bytes falls. Assumes nothing.
-use native.Mathlib.Omega.{arith}
-use Rattle.test_text.proofs.Laws.{before_end, before_here, before_on}
+-- `test_text::find` meets its contract: the place is asked of the part from `from` on. Assumes nothing.
+use Rattle.std.proofs.Common.{ℕ, ◌+◌, eqb, ap, ◌∙◌, rules}
+use Rattle.std.proofs.lemmas.Iterator.{YieldsList-from_slice}
+use Rattle.std.proofs.lemmas.Iterator.Search.{position_from_yields_List}
+use borrow.Author.Rules.{part_to_end}
+use borrow.Author.Tests.{tests}
+use Rattle.test_text.specs.Text.{before}
+use Rattle.test_text.proofs.Laws.{before_found}
 use Rattle.test_text.proofs.find.Goals as goal
-
-pub returns-then-s-i : goal.returns-then-s-i
-returns-then-s-i c =
-    omega (arith, c.loop-i.invariant, before_here c.args.what c.loop-i.i c.args.s.now (omega arith) (omega arith))
-
-pub loop-i-preserved : goal.loop-i-preserved
-loop-i-preserved c =
-    omega (arith, c.loop-i.invariant, before_on c.args.what c.loop-i.i c.args.s.now (omega arith) c.if-s-i.false)
 
 pub returns : goal.returns
 returns c =
-    omega (arith, c.loop-i.invariant, before_end c.args.what c.loop-i.i c.args.s.now (omega arith))
+    let a = c.args in
+    let s = c.in-Some.behind.now in
+    let p = position_from_yields_List (λ b. eqb b a.what) _ _ _ c.position.ensures.ran (YieldsList-from_slice s cc) (λ x b q k. search (rules, tests)) in
+    ap (λ (n : ℕ). a.from + n) (c.unwrap_or.ensures ∙ before_found a.what s _ p ∙ ap (before a.what) (c.in-Some.ensures.lookup.0.2 ∙ part_to_end a.s.now a.from))

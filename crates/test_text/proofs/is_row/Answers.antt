@@ -1,24 +1,19 @@
--- `test_text::is_row` meets its contract: each byte that is passed stands for its other, so the answer is that of the bytes still to be passed.
--- What is left of the key falls. Assumes nothing.
-use native.Mathlib.Omega.{arith}
-use mathlib.Core.Path.{sym, ◌∙◌}
-use Rattle.test_text.proofs.Laws.{row_lengths, row_end, row_on, row_off}
+-- `test_text::is_row` meets its contract: the pairs of a key and a row of one length are asked in order. Assumes nothing.
+use Rattle.std.proofs.Common.{ℕ, sym, ◌∙◌, rules}
+use Rattle.std.proofs.lemmas.Iterator.{YieldsList-from_slice, YieldsList-from_zip}
+use Rattle.std.proofs.lemmas.Iterator.Search.{all_from_yields_List}
+use borrow.Author.Tests.{tests, ne_eqb}
+use Rattle.test_text.specs.Text.{stands_for}
+use Rattle.test_text.proofs.Laws.{row_zip, row_lengths}
 use Rattle.test_text.proofs.is_row.Goals as goal
 
 pub returns-then-key-row : goal.returns-then-key-row
-returns-then-key-row c = sym (row_lengths _ _ c.if-key-row.true)
-
-pub returns-then-not-stands_for : goal.returns-then-not-stands_for
-returns-then-not-stands_for c =
+returns-then-key-row c =
     let a = c.args in
-    sym (c.loop-i.invariant.1 ∙ row_off c.loop-i.i a.key.now a.row.now (omega arith) (omega arith) (sym c.stands_for.ensures ∙ c.if-not-stands_for.true))
+    all_from_yields_List (λ (p : ℕ × ℕ). stands_for p.1 p.0) c.all.new.self _ _ c.all.ensures.ran (YieldsList-from_zip {s = c.zip.result} (YieldsList-from_slice a.key.now cc) (YieldsList-from_slice a.row.now cc)) (λ x b q k. search (rules, tests))
+    ∙ row_zip a.key.now a.row.now c.if-key-row.true
 
-pub loop-i-preserved : goal.loop-i-preserved
-loop-i-preserved c =
+pub returns-else-key-row : goal.returns-else-key-row
+returns-else-key-row c =
     let a = c.args in
-    (omega arith, c.loop-i.invariant.1 ∙ row_on c.loop-i.i a.key.now a.row.now (omega arith) (omega arith) (sym c.stands_for.ensures ∙ c.if-not-stands_for.false))
-
-pub returns : goal.returns
-returns c =
-    let a = c.args in
-    sym (c.loop-i.invariant.1 ∙ row_end c.loop-i.i a.key.now a.row.now (omega arith) (omega arith))
+    ne_eqb _ _ c.if-key-row.false ∙ sym (row_lengths a.key.now a.row.now c.if-key-row.false)

@@ -1,30 +1,22 @@
--- `EntityIdTlv::from_tlv` meets its contract: the three tests, and then the number of the value. Assumes nothing.
+-- `EntityIdTlv::from_tlv` meets its contract behind its tests: the value is as long as a width, and is read as its number. Assumes nothing.
 use mathlib.Core.Path.{◌≡◌, sym, ap, ◌∙◌}
+use lib.ListN.{length}
 use Rattle.refusal.specs.Answer.{gives}
-use Rattle.refusal.specs.Told.{told_checked}
-use Rattle.refusal.proofs.Laws.{also_of}
 use Rattle.lv.specs.Rules.{part_of}
-use Rattle.entity_id.specs.Rules.{width_ok}
-use Rattle.entity_id.proofs.Laws.{tlv_test, held, numbered_by, of_tlv_refused, of_tlv_passed}
+use Rattle.lv.proofs.Laws.{span_test_passed, length-part_of}
+use Rattle.entity_id.proofs.Laws.{valued, value_not_refused, of_tlv_passed}
 use Rattle.entity_id.proofs.EntityIdTlv.from_tlv.Goals as goal
-use Rattle.entity_id.proofs.EntityIdTlv.from_tlv.Goals.{After-then-test}
+use Rattle.entity_id.proofs.EntityIdTlv.from_tlv.Goals.{In_ok-span_test}
 
--- what the tests told
-told : (c : After-then-test) → (let a = c.args in told_checked c.then-test.result ≡ tlv_test a.tlv a.buf.now)
-told c =
-    let d = c in
-    also_of c.then-test.ensures (also_of d.then.ensures d.label_test.ensures d.width_test.ensures) c.span_test.ensures
+-- the value is all there
+size : (c : In_ok-span_test) → (let t = c.args.tlv in length (part_of t.lv c.args.buf.now) ≡ t.lv.len)
+size c = length-part_of _ _ (span_test_passed _ _ c.in_ok-span_test.ensures)
 
-pub returns-in-Refused : goal.returns-in-Refused
-returns-in-Refused c = of_tlv_refused _ _ _ _ (sym (ap told_checked c.in-Refused.is) ∙ told (goal.at.returns-in-Refused c).After-then-test)
+pub returns-in_err-value : goal.returns-in_err-value
+returns-in_err-value c =
+    absurd (value_not_refused _ (size (goal.at.returns-in_err-value c).In_ok-span_test) c.in_ok-width_test.ensures (rw c.value.ensures at c.in_err-value.ensures))
 
 pub returns : goal.returns
 returns c =
-    let d = c in
-    let e = c in
-    let a = e.args in
-    let fine = sym (ap told_checked d.in_default.is) ∙ told (goal.at.returns c).After-then-test in
-    let h = held a.tlv a.buf.now fine in
-    let v = part_of a.tlv.lv a.buf.now in
-    ap gives (numbered_by v h.size ((rw c.value.ensures at c.value_of-value.ensures) (ap width_ok h.size ∙ h.wide)))
-    ∙ sym (of_tlv_passed a.tlv a.buf.now fine)
+    ap gives (valued _ (size (goal.at.returns c).In_ok-span_test) (rw c.value.ensures at c.in_ok-value.ensures)).is
+    ∙ sym (of_tlv_passed _ _ c.in_ok-label_test.ensures c.in_ok-width_test.ensures c.in_ok-span_test.ensures)

@@ -1,9 +1,0 @@
--- `FilestoreRequestTlv::from_bytes_strict` meets its contract: what was found, as a request. Assumes nothing.
-use mathlib.Core.Path.{ap, ◌∙◌}
-use Rattle.refusal.specs.Answer.{map_answer}
-use Rattle.filestore_request.proofs.Laws.{strict_request_is}
-use Rattle.filestore_request.specs.Rules.{request_in}
-use Rattle.filestore_request.proofs.FilestoreRequestTlv.from_bytes_strict.Goals as goal
-
-pub returns : goal.returns
-returns c = c.request_of.ensures ∙ ap (map_answer request_in) c.from_bytes_strict.ensures ∙ strict_request_is _

@@ -1,9 +1,0 @@
--- `test_journal::sum::say_last_line` is safe and ends: a line ends behind its start, so what is left of the text falls. Assumes nothing.
-use Rattle.std.proofs.Common.{◌-◌, length}
-use Rattle.test_journal.proofs.sum.say_last_line.Given as goal
-
-abbrev pub invariant-loop-at : goal.invariant-loop-at
-invariant-loop-at l = Unit
-
-abbrev pub decreases-loop-at : goal.decreases-loop-at
-decreases-loop-at l = length l.listed - l.at
