@@ -21,7 +21,7 @@ pub enum FilestoreActionCode {
     DenyDirectory = 8,
 }
 
-// The action of a number. 7 where it has none.
+// The action of a number. 7 where it has none. The numbers stand here once more: a number has to be matched to be read.
 impl TryFrom<u8> for FilestoreActionCode {
     type Error = Refusal;
 

@@ -280,6 +280,7 @@ impl From<Result<Kind, Refusal>> for KindAnswer {
 
     fn from(a: Result<Kind, Refusal>) -> KindAnswer {
         let (refusal, kind) = split(a, Kind::Request);
+        // the numbers are those of cabi/balunduwa.h, whatever the order of the enum
         let kind = match kind {
             Kind::Request => 0,
             Kind::Response => 1,

@@ -31,6 +31,8 @@ use refusal::Refusal;
 use tlv::{Tlv, TlvTypeField};
 use walk::{Step, step_at, summary_of};
 
+// The structs are those of C, which has no `Option` and no enum with fields: a number says which case it is.
+
 // A refusal: its number and its values, 0 for each that it does not carry.
 #[repr(C)]
 #[derive(Clone, Copy, Default)]
@@ -257,6 +259,7 @@ pub extern "C" fn balunduwa_request_read_strict(buf: &[u8]) -> RequestAnswer
     FilestoreRequestTlv::from_bytes_strict(buf).into()
 }
 
+// A response's is a line like this: one function for both has a longer contract than the two.
 fn write_request(request: Request, src: &[u8], buf: &mut [u8]) -> Result<usize, Refusal>
     ensures { Wrote 0 (write_request request src.now (length buf.old)) (told result) buf.old buf.new }
 {

@@ -29,7 +29,8 @@ pub struct FilestoreTlvBase {
     pub message: Option<Lv>,
 }
 
-// ---- a second name, or a message: there, with its span, or absent
+// ---- a second name, or a message: there, with its span, or absent. Each call is a `match`, and no `map_or`: both cases have a name, and a closure would
+// have a contract of its own.
 
 // Its bytes, as a part of the buffer, or the buffer's first 0 bytes where it is absent or its span passes the end.
 pub fn value_if(name: Option<Lv>, buf: &[u8]) -> &[u8]
@@ -112,7 +113,7 @@ fn same_if(name: Option<Lv>, buf: &[u8], other: Option<Lv>, other_buf: &[u8]) ->
     }
 }
 
-// The type of a response, or of a request.
+// The type of a response, or of a request: a flag has two values, as there are two types.
 pub fn tlv_type(response: bool) -> TlvType
     ensures { result ≡ type_in response }
 {
@@ -248,7 +249,7 @@ impl FilestoreTlvBase {
         Ok(expected)
     }
 
-    // The same without the message: a request.
+    // The same without the message: a request. No crate calls it today: its name is public, and its promise stands.
     pub fn write_request(self, src: &[u8], buf: &mut [u8]) -> Result<usize, Refusal>
         ensures { Wrote 0 (write_base (base_of self.action_code self.low_bits self.first_name self.second_name None) src.now (length buf.old)) (told result) buf.old buf.new }
     {
@@ -267,7 +268,7 @@ impl FilestoreTlvBase {
         self.action_code == other.action_code && self.low_bits == other.low_bits
     }
 
-    // Whether names and message have the same bytes.
+    // Whether names and message have the same bytes. It is no `==`: the bytes lie in two buffers.
     #[tactic(auto, unfolding(crate::specs::Rules::same_parts))]
     fn same_parts(self, buf: &[u8], other: FilestoreTlvBase, other_buf: &[u8]) -> bool
         ensures { result ≡ same_parts (meaning self buf.now) (meaning other other_buf.now) }
@@ -343,6 +344,7 @@ pub trait FilestoreTlv: Copy {
     }
 
     // Whether two have the same action, low bits, names and message, each in its own buffer. 15 for the first span that passes its buffer's end.
+    // It is no `==`, which could not refuse, and would compare places.
     fn same(self, buf: &[u8], other: Self, other_buf: &[u8]) -> Result<bool, Refusal>
         ensures { told result ≡ same_base (held self) buf.now (held other) other_buf.now }
     {

@@ -24,7 +24,7 @@ pub struct Found {
 
 // ---- reading, from a place on, in the bytes of one TLV, which end where its value does
 
-// Refusal 1, for a byte that is not there.
+// Refusal 1, for a byte that is not there. Each layer makes it by itself, with the place that it tells.
 fn no_byte(place: usize) -> Refusal
     ensures { result ≡ Refusal.FromSliceTooSmall 0 1 place }
 {
@@ -35,7 +35,8 @@ fn no_byte(place: usize) -> Refusal
     }
 }
 
-// An LV, where one is wanted. Where nothing is left it is refused here, whatever the place: so nothing is required of the place.
+// An LV, where one is wanted: a response has a message, and a request has none. Where nothing is left it is refused here, whatever the place: so nothing is
+// required of the place.
 #[tactic(auto, using(crate::proofs::Laws::read_if_at_not, crate::proofs::Laws::read_if_at_none, crate::proofs::Laws::read_if_at_lv))]
 fn lv_if(tlv: &[u8], at: usize, wanted: bool) -> Result<Option<Lv>, Refusal>
     ensures { told result ≡ read_if_at tlv.now at (length tlv.now) wanted }
@@ -63,7 +64,7 @@ fn second_at(tlv: &[u8], at: usize, action_code: FilestoreActionCode) -> Result<
     lv_if(tlv, at, true)
 }
 
-// The place behind what stands at the place at: an LV, or nothing.
+// The place behind what stands at the place at: an LV, or nothing. A `match`, as those of filestore_base are.
 fn place_behind(at: usize, l: Option<Lv>) -> usize
     requires { end_if at l ≤ usize.MAX }
     ensures { result ≡ end_if at l }
@@ -138,7 +139,7 @@ fn listed_test(action_code: FilestoreActionCode, status: u8) -> Result<(), Refus
 }
 
 impl Found {
-    // What strict reading tests: 11 and then 12 for a request, 12 and then 13 for a response.
+    // What strict reading tests: 11 and then 12 for a request, 12 and then 13 for a response. `response` is the one thing in which the two differ.
     fn strict_test(self, response: bool) -> Result<(), Refusal>
         ensures { told result ≡ strict_test response (code_of self.base.action_code) self.base.low_bits self.left }
     {

@@ -147,6 +147,7 @@ impl FilestoreRequestTlv {
         .built()
     }
 
+    // A response has getters of these names too: a trait for them would be as long.
     pub fn action_code(self) -> FilestoreActionCode
         ensures { result ≡ self.action_code }
     {

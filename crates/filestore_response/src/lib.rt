@@ -69,7 +69,7 @@ impl FilestoreTlv for FilestoreResponseTlv {
 }
 
 impl FilestoreResponseTlv {
-    // A response with an empty message. 4, 6 or 8, 9, then 5.
+    // A response with an empty message, by the Rust's name. 4, 6 or 8, 9, then 5.
     pub fn new_no_filestore_message(
         action_code: FilestoreActionCode,
         status_code: u8,
@@ -108,13 +108,14 @@ impl FilestoreResponseTlv {
         .built()
     }
 
-    // Whether an action has a second name.
+    // Whether an action has a second name. The Rust has this name beside `fs_request_has_second_filename`.
     pub fn has_second_filename(action_code: FilestoreActionCode) -> bool
         ensures { result ≡ due_of action_code }
     {
         action::fs_request_has_second_filename(action_code)
     }
 
+    // A request has getters of these names too: a trait for them would be as long.
     pub fn action_code(self) -> FilestoreActionCode
         ensures { result ≡ self.action_code }
     {

@@ -11,13 +11,14 @@ ghost use Rattle.lv.specs.Rules.{span, part_of, span_test, size_test, write_test
 use refusal::Refusal;
 
 // Where a value lies in the buffer that it was read from, or that it is written from. Document 01 has spans for slices, and C hands them over.
+// No `==` is derived: it would compare places, and `same` compares bytes.
 #[derive(Clone, Copy)]
 pub struct Lv {
     pub start: usize,
     pub len: usize,
 }
 
-// Refusal 1.
+// Refusal 1. Each layer makes it by itself, with the place that it tells.
 fn short(place: usize, found: usize, expected: usize) -> Result<Lv, Refusal>
     ensures { told result ≡ short_at place found expected }
 {
@@ -68,8 +69,7 @@ impl Lv {
     pub fn is_empty(self) -> bool
         ensures { result ≡ eqb self.len 0 }
     {
-        let len = self.len;
-        len == 0
+        self.len == 0
     }
 
     // The value, as a part of the buffer, or the buffer's first 0 bytes where the span passes its end: `span_test` tells that.

@@ -10,7 +10,7 @@ ghost use Rattle.splice.specs.Writing.{room_at, Wrote};
 
 use refusal::Refusal;
 
-// The number of at most 8 bytes, read from a copy with zeros in front.
+// The number of at most 8 bytes, read from a copy with zeros in front: the array is what `from_be_bytes` takes.
 fn of(v: &[u8]) -> u64
     requires { length v.now ≤ 8 }
     ensures { result ≡ of_be v.now }

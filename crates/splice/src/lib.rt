@@ -15,13 +15,12 @@ fn ends<const W: usize>(dst: &mut [u8], src: &[u8])
     requires within { (W ≤ length src.now) × (length src.now ≤ 2 * W) }
     ensures { dst.new ≡ src.now }
 {
-    let front = *src.first_chunk::<W>().unwrap();
-    let back = *src.last_chunk::<W>().unwrap();
-    *dst.first_chunk_mut::<W>().unwrap() = front;
-    *dst.last_chunk_mut::<W>().unwrap() = back;
+    *dst.first_chunk_mut::<W>().unwrap() = *src.first_chunk::<W>().unwrap();
+    *dst.last_chunk_mut::<W>().unwrap() = *src.last_chunk::<W>().unwrap();
 }
 
-// The same of any length, by the library's method, a call of C's `memcpy`. It is not inlined, so that who copies few bytes saves no registers for it.
+// The same of any length, by the library's method, whose clause on the lengths this is: a call of C's `memmove`. It is not inlined, so that who copies few
+// bytes saves no registers for it.
 #[inline(never)]
 fn long(dst: &mut [u8], src: &[u8])
     requires { length src.now ≡ length dst.old }
@@ -37,7 +36,13 @@ fn lay(dst: &mut [u8], src: &[u8])
     ensures { dst.new ≡ src.now }
 {
     let n = src.len();
-    if n <= 3 {
+    if n <= 15 {
+        if 4 <= n {
+            if 8 <= n {
+                return ends::<8>(dst, src);
+            }
+            return ends::<4>(dst, src);
+        }
         if 2 <= n {
             return ends::<2>(dst, src);
         }
@@ -45,12 +50,6 @@ fn lay(dst: &mut [u8], src: &[u8])
             dst[0] = src[0];
         }
         return;
-    }
-    if n <= 15 {
-        if n <= 7 {
-            return ends::<4>(dst, src);
-        }
-        return ends::<8>(dst, src);
     }
     if n <= 32 {
         return ends::<16>(dst, src);

@@ -217,7 +217,7 @@ impl Say for Summary {
     }
 }
 
-// What a writer answers, and all of its buffer as it is afterwards.
+// What a writer answers, and all of its buffer as it is afterwards. Not by `Say`: a count of written bytes is said otherwise than a length, and both are `usize`.
 pub fn written(x: Result<usize, Refusal>, buf: &[u8])
     ensures { result ≡ tt }
 {

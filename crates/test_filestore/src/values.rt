@@ -7,10 +7,7 @@ use test_text::Words;
 
 // An action from its number.
 pub(crate) fn action(x: usize) -> FilestoreActionCode {
-    match FilestoreActionCode::try_from((x % 256) as u8) {
-        Ok(action_code) => action_code,
-        Err(_) => FilestoreActionCode::DenyDirectory,
-    }
+    FilestoreActionCode::try_from((x % 256) as u8).unwrap_or(FilestoreActionCode::DenyDirectory)
 }
 
 // A second name from its three words.

@@ -13,6 +13,7 @@ use test_output::{count, text};
 use test_text::{Call, Words};
 use walk::{Record, Step, step_at, summary_of};
 
+// No `Say`: that trait is of test_answers, which stands beside kind and not above it.
 fn kind(x: Result<Kind, Refusal>) {
     match x {
         Ok(Kind::Request) => text(b"request"),

@@ -1,4 +1,5 @@
 // Says what a long listing is: its size, its checksum, its first two lines and its last.
+use dump_io::room;
 use listing::{At, Part, fill};
 use test_output::text;
 use test_text::{checksum, part};
@@ -57,11 +58,11 @@ fn say_start(journal: &[u8], out: &mut [u8]) {
     }
 }
 
-// From a new line on; or `pieces differ`, where the listing through a small buffer and that through a large one are not alike.
+// From a new line on; or `pieces differ`, where the listing through a small buffer and that through a large one, arrays both, are not alike.
 pub(crate) fn say(journal: &[u8]) {
     test_output::line_end();
     let mut small = [0u8; 133];
-    let mut large = io::large_buffer();
+    let mut large = room::<65536>();
     let (sum, last) = through(journal, &mut small);
     let (same, _) = through(journal, &mut large);
     if sum != same {

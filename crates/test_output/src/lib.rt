@@ -58,6 +58,7 @@ pub fn truth(x: bool)
     either(x, b"true", b"false");
 }
 
+// Says the word: it compares nothing.
 pub fn same(x: bool)
     ensures { result ≡ tt }
 {

@@ -6,7 +6,8 @@ fn pair(x: u8) {
     io::print_hex(STDOUT, x as u64, 2);
 }
 
-// Says a run of equal bytes: five or more in a piece of its own, fewer as pairs. `before` is the length of the run before, 0 at the start.
+// Says a run of equal bytes: five or more in a piece of its own, fewer as pairs. `before` is the length of the run before, 0 at the start: a run
+// has one byte or more, so it is no `Option`.
 fn say_run(run: &[u8], before: usize) {
     if run.len() < 5 {
         if 4 < before {

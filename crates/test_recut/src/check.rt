@@ -36,9 +36,7 @@ fn record(s: &[u8], place: usize, due: Due, a: &[u8]) -> Result<(), Difference> 
 fn records(s: &[u8], c: Cut, n: usize, list: List) -> Result<(), Difference> {
     let mut place: usize = 0;
     for i in 0..n {
-        let Some(due) = c.record(i, place, list) else {
-            return Err(Difference::NoRecord);
-        };
+        let due = c.record(i, place, list).ok_or(Difference::NoRecord)?;
         record(s, place, due.by(list, i), list.a)?;
         place = due.next;
     }
@@ -69,9 +67,7 @@ fn ended(s: &[u8], last: Last, list: List) -> Result<Last, Difference> {
         return Err(Difference::End);
     }
     let due = last.by_summary(list);
-    let Ok(summary) = walk::summary_of(s) else {
-        return Err(Difference::Count);
-    };
+    let summary = walk::summary_of(s).or(Err(Difference::Count))?;
     if summary.count != due.count {
         return Err(Difference::Count);
     }

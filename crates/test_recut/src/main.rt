@@ -39,7 +39,8 @@ use std::io::Stdout;
 use test_output::recut;
 use test_text::{checksum, part};
 
-// Room for the ends of the records. The clause is what lending the array as a slice needs.
+// Room for the ends of the records: an array, since there is no heap, and no `room` of dump_io, which is of bytes. The clause is what lending the array as a
+// slice needs.
 fn ends_room() -> [usize; 32768]
     ensures { 32768 ≡ length result }
 {

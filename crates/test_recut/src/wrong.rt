@@ -1,4 +1,5 @@
 // Compares the walks of one cut with lists that are wrong on purpose, so that it is seen that each comparison finds what it is there for.
+// A cut and the list go together through this module: both are structs, and a third for both would be taken apart in each function.
 use crate::cuts;
 use crate::cuts::Totals;
 use crate::due::{Cut, List, Thing, Wrong};

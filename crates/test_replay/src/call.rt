@@ -3,7 +3,7 @@ use crate::word;
 use crate::word::Word;
 use test_text::{Words, find, part};
 
-// n is the length of the key. `left` has the words before the first bytes, and w all of them. `first` is the word of the first bytes, and `last` that of the
+// n is the length of the key, which stands in a lent array. `left` has the words before the first bytes, and w all of them. `first` is the word of the first bytes, and `last` that of the
 // last; a call without bytes has none there.
 #[derive(Clone, Copy)]
 pub struct Spelled<'a> {
@@ -30,8 +30,7 @@ impl<'a> Spelled<'a> {
             }
             self.last = text;
         }
-        let more = word.behind(w);
-        self.w = more;
+        self.w = word.behind(w);
         Some(self)
     }
 }
@@ -40,9 +39,7 @@ impl<'a> Spelled<'a> {
 pub(crate) fn read<'a>(text: &'a [u8], key: &mut [u8]) -> Option<Spelled<'a>> {
     let name = find(text, b' ', 0);
     let n = text.len().min(name.saturating_add(1));
-    if splice::put(key, 0, part(text, 0, n)).is_err() {
-        return None;
-    }
+    splice::put(key, 0, part(text, 0, n)).ok()?;
     let mut call = Spelled {
         n,
         left: [0; 9],

@@ -6,7 +6,7 @@ use std::io::{Result, Stdout};
 use test_output::text;
 use test_text::{Call, bytes, copied, part};
 
-// Room for the first and the last bytes of a call, and for the bytes that the state holds.
+// Room for the first and the last bytes of a call, and for the bytes that the state holds: arrays, since there is no heap, so a count of bytes goes beside each.
 #[derive(Drop)]
 pub struct Rooms {
     pub a: [u8; 66000],
@@ -52,7 +52,8 @@ fn answer(out: &mut Stdout, state: State, text: &[u8], rooms: &mut Rooms) -> Res
     walker_rows::say(out, state, &call, &mut rooms.held)
 }
 
-// Writes a case back, each of its calls with the answer behind it. The state goes from call to call. A space before a call is passed over.
+// Writes a case back, each of its calls with the answer behind it. The state goes from call to call. A space before a call is passed over. `first` is a flag,
+// since a semicolon stands before each call but the first.
 fn answered(out: &mut Stdout, line: &[u8], rooms: &mut Rooms) -> Result<()> {
     let mut state = walker_rows::new();
     let mut first = true;

@@ -17,7 +17,7 @@ fn in_filestore(call: &Call) -> bool {
 }
 
 // Makes a call, and says what it answers; out is standard output, for the row of dump_io, which lists a journal as the program dump does, from a new line on. A new
-// crate of tables has its test here.
+// crate of tables has its test here. A row stays a test of the key, as in test_formats.
 pub(crate) fn say(out: &mut Stdout, call: &Call) -> Result<()> {
     if call.is(b"dump.list X") {
         test_output::line_end();

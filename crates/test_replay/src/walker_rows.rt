@@ -40,7 +40,7 @@ fn step(state: State, src: &[u8]) -> State {
     }
 }
 
-// Makes a call, says what it answers, and answers the state after; out is as `tables::say` has it.
+// Makes a call, says what it answers, and answers the state after; out is as `tables::say` has it. A row stays a test of the key, as in test_formats.
 pub(crate) fn say(out: &mut Stdout, state: State, call: &Call, held: &mut [u8]) -> Result<State> {
     if call.is(b"walker.new X") {
         return Ok(made(call.a, test_walker::new_at(call.a), held));

@@ -8,7 +8,8 @@ ghost use Rattle.std.specs.Prelude.{◌≡◌, ◌+◌, length, drop};
 ghost use Rattle.test_text.specs.Text.{nibble_of, stretch, before, line_at, next_line, no_case, stands_for, of_row, decimal_of, with_digit, sum_of};
 ghost use Rattle.test_text.specs.Notation.{bytes_of, Left};
 
-// The number of a hexadecimal digit, 0 to 9, a to f or A to F. None for any other byte.
+// The number of a hexadecimal digit, 0 to 9, a to f or A to F. None for any other byte. By hand, here and in `decimal`: the text is bytes, and std reads the
+// digits of `char` and `str`.
 #[tactic(auto, unfolding(crate::specs::Text::digit))]
 pub fn nibble(x: u8) -> Option<u8>
     ensures { result ≡ nibble_of x }
@@ -29,7 +30,8 @@ pub fn part(s: &[u8], start: usize, end: usize) -> &[u8]
     s.get(start..end).unwrap_or(&[])
 }
 
-// The place of the first byte `what` at the place `from` or behind it. Where there is none it is the length of s, or `from` if that is larger.
+// The place of the first byte `what` at the place `from` or behind it. Where there is none it is the length of s, or `from` if that is larger: no `Option`,
+// since its callers take the part up to that place.
 #[tactic(auto, using(crate::proofs::Laws::before_end))]
 pub fn find(s: &[u8], what: u8, from: usize) -> usize
     ensures { result ≡ from + before what (drop from s.now) }
@@ -147,6 +149,7 @@ pub fn checksum(before: u64, text: &[u8]) -> u64
 
 // The last nine numbers of a call, in order: those of a call with two numbers are the last two. A type field is one number, 256 and more for a custom label, and a
 // second name is three: 1 where it is there, its start and its length.
+// All are numbers in one row, whatever they stand for: a row's name says that.
 pub type Words = [usize; 9];
 
 // A call, read. `key` is its name and the letters of its words. `left` has the words before the first bytes, and w all of them; a is the first bytes, and b the last:

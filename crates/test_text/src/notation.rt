@@ -14,7 +14,8 @@ fn pair(high: u8, low: u8, buf: &mut [u8]) -> Option<usize>
     Some(1)
 }
 
-// Stores the bytes that pairs of hexadecimal digits say.
+// Stores the bytes that pairs of hexadecimal digits say. A loop over what is left: each turn takes a pair from its front, and the last one leaves one digit or
+// none.
 fn pairs(text: &[u8], buf: &mut [u8]) -> Option<usize>
     ensures { Left (pairs_of text.now) 0 buf.old result buf.new }
 {
@@ -34,7 +35,7 @@ fn are_pairs(text: &[u8]) -> bool
     text.len() % 2 == 0 && text.iter().all(|x| nibble(*x).is_some())
 }
 
-// Stores the bytes of pairs so many times.
+// Stores the bytes of pairs so many times. The counter has a name, since the loop's invariant speaks of it.
 fn times(count: usize, text: &[u8], buf: &mut [u8]) -> Option<usize>
     ensures { Left (times_of count (pairs_of text.now)) 0 buf.old result buf.new }
 {
