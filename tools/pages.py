@@ -12,8 +12,8 @@ OUTSIDE = {
     "the kit's command, and what it prints": "rt axioms=",
     "words of a listing, and of the samples": "request response entity other refused whole cut too no plain p",
     "commands of the system": "cat cc echo head python3",
-    "functions of C": "memmove memcpy",
-    "types, attributes and functions of every Rust": "Option Some None Result Ok Err #[inline] copy_from_slice From TryFrom PartialEq Eq Copy Clone Debug Drop Display true false self unwrap expect panic ? == and for match ilog10 #[inline(always)] inline always from_be_bytes to_be_bytes Default",
+    "functions of C": "memmove",
+    "types, cases, traits, attributes and functions of every Rust": "u8 Option Some None Result Ok Err true self From TryFrom PartialEq #[inline] copy_from_slice unwrap ilog10 #[inline(always)] Result::and",
     "names and files of the Rust that is ported": "raw_data ByteConversionError InvalidTlvTypeFieldError spacepackets bitenum cfdp util pdu"
     " msg_to_user proxy remote std new_from_string lv.rs util.rs tlv/mod.rs cfdp/mod.rs src/cfdp/lv.rs src/cfdp/mod.rs src/cfdp/tlv/mod.rs src/lib.rs src/util.rs",
 }

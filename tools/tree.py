@@ -73,22 +73,38 @@ def public_traits():
     return {"From", "TryFrom"} | {name for text in texts for name in re.findall(r"\bpub trait (\w+)", text)}
 
 
+GENERICS = r"<((?:[^<>]|<(?:[^<>]|<[^<>]*>)*>)*)>"
+
+
 def blocks_of_functions(text):
     """The blocks in which a function stands with a name before its own: start, end, that name, what a trait is of, whether each function in it is public."""
-    for m in re.finditer(r"\bimpl(?:<[^>]*>)?\s+(?:(\w+)(?:<(\w+)>)?\s+for\s+)?(\w+)[^{]*\{", text):
-        yield m.start(), closing(text, m.end() - 1), m.group(3), m.group(2), m.group(1) in TRAITS
+    for m in re.finditer(r"\bimpl(?:%s)?\s+(?:(\w+)(?:%s)?\s+for\s+)?(\w+|\(\))[^{]*\{" % (GENERICS, GENERICS), text):
+        yield m.start(), closing(text, m.end() - 1), m.group(4), m.group(3), m.group(2) in TRAITS
     for m in re.finditer(r"\b(pub\s+)?trait\s+(\w+)[^{]*\{", text):
         yield m.start(), closing(text, m.end() - 1), m.group(2), None, bool(m.group(1))
 
 
 def functions(text):
     """The functions and constants of a file: the name, with its type where it stands in an `impl` (`Lv::new`, `u8::from(TlvType)`), whether it is a public
-    call, its place."""
+    call, its place. A const parameter (`<const N: usize>`) is no constant."""
     blocks = list(blocks_of_functions(text))
-    for m in re.finditer(r"(\bpub\s+)?(?:extern\s+\"C\"\s+)?\b(fn|const)\s+(\w+)", text):
+    for m in re.finditer(r"(?<![<\w])(?<!, )(?:(\bpub\s+)|pub\([^()]*\)\s+)?(?:extern\s+\"C\"\s+)?\b(fn|const)\s+(\w+)", text):
         within = [b for b in blocks if b[0] <= m.start() < b[1]]
         name = "".join(b[2] + "::" for b in within) + m.group(3) + "".join("(%s)" % b[3] for b in within if b[3])
         yield name, (bool(m.group(1)) or any(b[4] for b in within)) and m.group(2) == "fn", m.start()
+
+
+def edited(folder, path, file):
+    """The text of a file of a crate's folder as the edit at a path leaves it; without an edit as it stands."""
+    text, at, old = read(file), None, None
+    for line in read(path).split("\n") if path else []:
+        if line.startswith("file: "):
+            at = folder + "/" + line[6:]
+        elif line.startswith("old: "):
+            old = line[5:]
+        elif line.startswith("new:") and old and at == file:
+            text = text.replace(old, re.sub("^new: ?", "", line), 1)
+    return text
 
 
 def rattle_names(text):
@@ -98,7 +114,7 @@ def rattle_names(text):
         names |= {name, name.split("(")[0], name.split("(")[0].split("::")[-1]}
     for params in re.findall(r"\bfn\s+\w+\(([^()]*)\)", text):
         names |= set(re.findall(r"\b(\w+)\s*:", params))
-    return names | set(re.findall(r"\bmod\s+(\w+)\s*;", text))
+    return (names | set(re.findall(r"\bmod\s+(\w+)\s*;", text))) - {""}
 
 
 class Crate:

@@ -241,9 +241,14 @@ fn buffer(buf: &[u8]) {
     bytes(buf);
 }
 
+// A call that writes to a buffer, and says what it answers.
+pub trait Writes: Sized {
+    fn write(&self, buf: &mut [u8])
+        ensures { result ≡ tt };
+}
+
 // Lends a copy of a buffer to a call that writes, so that nothing lent is changed.
-pub fn on_copy<F: FnOnce(&mut [u8])>(buf: &[u8], write: F)
-    requires { F.IsAlwaysCallable write }
+pub fn on_copy<W: Writes>(buf: &[u8], call: &W)
     ensures { result ≡ tt }
 {
     let n = buf.len();
@@ -252,5 +257,5 @@ pub fn on_copy<F: FnOnce(&mut [u8])>(buf: &[u8], write: F)
         return bad();
     }
     copy[..n].copy_from_slice(buf);
-    write(&mut copy[..n]);
+    call.write(&mut copy[..n]);
 }

@@ -107,6 +107,11 @@ read_fits m at old r new n h e =
     let w = left_within m at old n new (subst (λ (x : Option ℕ). Left m at old x new) e h) in
     (w.1, w.2)
 
+-- In every case the buffer is as long as before.
+pub left_length : (m : Option (List ℕ)) (at : ℕ) (old : List ℕ) (r : Option ℕ) (new : List ℕ) → Left m at old r new → length new ≡ length old
+left_length m at old (Some n) new h = (left_within m at old n new h).2
+left_length m at old None new h = (left_no m at old new h).size
+
 -- One answer only, and where it is Some one buffer.
 pub one_left : (m : Option (List ℕ)) (at : ℕ) (old : List ℕ) (r q : Option ℕ) (new mew : List ℕ) → Left m at old r new → Left m at old q mew → (r ≡ q) × ((n : ℕ) → r ≡ Some n → new ≡ mew)
 unfolding Left LeftIf
@@ -236,22 +241,22 @@ module _ (n : ℕ) (buf s : List ℕ) (h : n ≤ length buf) where
         let z = part_size in
         left_full l n buf None whole (omega arith) refl (same_len_mid n (length buf - n) buf s d.size)
 
--- ---- LOOPS: what the rest of a text leaves from here on, the whole text leaves from the start on
+-- ---- LOOPS: what the rest of a text leaves from here on, the whole text leaves from the place `at` on
 
-pub record Reads (rest : Option (List ℕ)) (n : ℕ) (buf : List ℕ) (all : Option (List ℕ)) (old : List ℕ) : Type 0 where
+pub record Reads (rest : Option (List ℕ)) (n : ℕ) (buf : List ℕ) (all : Option (List ℕ)) (at : ℕ) (old : List ℕ) : Type 0 where
   pub place : n ≤ length buf
   pub size : length buf ≡ length old
-  pub leaves : (r : Option ℕ) (new : List ℕ) → Left rest n buf r new → Left all 0 old r new
+  pub leaves : (r : Option ℕ) (new : List ℕ) → Left rest n buf r new → Left all at old r new
 
-pub reads_start : (m o : Option (List ℕ)) (old : List ℕ) → m ≡ o → Reads m 0 old o old
-reads_start m o old e =
+pub reads_start : (m o : Option (List ℕ)) (at : ℕ) (old : List ℕ) → at ≤ length old → m ≡ o → Reads m at old o at old
+reads_start m o at old h e =
     record {
-      place = omega arith;
+      place = h;
       size = refl;
-      leaves = λ r new g. subst (λ (x : Option (List ℕ)). Left x 0 old r new) e g;
+      leaves = λ r new g. subst (λ (x : Option (List ℕ)). Left x at old r new) e g;
     }
 
-module _ (rest : Option (List ℕ)) (n : ℕ) (buf : List ℕ) (all : Option (List ℕ)) (old : List ℕ) (i : Reads rest n buf all old) where
+module _ (rest : Option (List ℕ)) (n : ℕ) (buf : List ℕ) (all : Option (List ℕ)) (at : ℕ) (old : List ℕ) (i : Reads rest n buf all at old) where
   -- the rest is a text and what is behind it, and the text was read into what is behind the bytes so far
   module _ (m : Option (List ℕ)) (p : ℕ) (s : List ℕ) (h : Left m 0 (take (length buf - n) (drop n buf)) (Some p) s) where
     pub reads_within : n + p ≤ length buf
@@ -261,7 +266,7 @@ module _ (rest : Option (List ℕ)) (n : ℕ) (buf : List ℕ) (all : Option (Li
         let z = w.2 in
         omega arith
 
-    pub reads_on : (o : Option (List ℕ)) → rest ≡ then m o → Reads o (n + p) (put_mid n (length buf - n) buf s) all old
+    pub reads_on : (o : Option (List ℕ)) → rest ≡ then m o → Reads o (n + p) (put_mid n (length buf - n) buf s) all at old
     reads_on o e =
         let g = left_part n buf s i.place m p h in
         let w = left_within m n buf (n + p) _ g in
@@ -272,18 +277,18 @@ module _ (rest : Option (List ℕ)) (n : ℕ) (buf : List ℕ) (all : Option (Li
         }
 
   -- the text was refused, and so the whole is
-  pub reads_stop : (m o : Option (List ℕ)) (r : Option ℕ) (s : List ℕ) → rest ≡ then m o → Left m 0 (take (length buf - n) (drop n buf)) None s → r ≡ None → Left all 0 old r (put_mid n (length buf - n) buf s)
+  pub reads_stop : (m o : Option (List ℕ)) (r : Option ℕ) (s : List ℕ) → rest ≡ then m o → Left m 0 (take (length buf - n) (drop n buf)) None s → r ≡ None → Left all at old r (put_mid n (length buf - n) buf s)
   reads_stop m o r s e h f =
       let new : List ℕ = put_mid n (length buf - n) buf s in
       let g = left_stop m o n buf new (left_part_no n buf s i.place m h) in
-      subst (λ (x : Option ℕ). Left all 0 old x new) (sym f) (i.leaves None new (subst (λ (x : Option (List ℕ)). Left x n buf None new) (sym e) g))
+      subst (λ (x : Option ℕ). Left all at old x new) (sym f) (i.leaves None new (subst (λ (x : Option (List ℕ)). Left x n buf None new) (sym e) g))
 
   -- the rest is not in the notation
-  pub reads_not : rest ≡ None → Left all 0 old None buf
+  pub reads_not : rest ≡ None → Left all at old None buf
   reads_not e = i.leaves None buf (left_not rest n buf None buf e refl refl)
 
   -- nothing is left
-  pub reads_end : rest ≡ Some [] → Left all 0 old (Some n) buf
+  pub reads_end : rest ≡ Some [] → Left all at old (Some n) buf
   reads_end e = i.leaves (Some n) buf (subst (λ (x : Option (List ℕ)). Left x n buf (Some n) buf) (sym e) (left_none n buf i.place))
 
 -- ---- PAIRS OF DIGITS

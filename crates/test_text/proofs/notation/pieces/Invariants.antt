@@ -5,4 +5,4 @@ use Rattle.test_text.proofs.Reading.{Reads, texts}
 use Rattle.test_text.proofs.notation.pieces.Given as goal
 
 abbrev pub invariant-loop-text : goal.invariant-loop-text
-invariant-loop-text l = Reads (all_of (drop (length l.yielded) (texts l.fn.text))) l.n l.buf (pieces_of l.fn.text) l.initial.buf
+invariant-loop-text l = Reads (all_of (drop (length l.yielded) (texts l.fn.text))) l.n l.buf (pieces_of l.fn.text) 0 l.initial.buf

@@ -5,4 +5,4 @@ use Rattle.test_text.proofs.Reading.{Reads}
 use Rattle.test_text.proofs.notation.times.Given as goal
 
 abbrev pub invariant-loop-i : goal.invariant-loop-i
-invariant-loop-i l = Reads (times_of (l.count - l.i) (pairs_of l.text)) l.n l.buf (times_of l.count (pairs_of l.text)) l.initial.buf
+invariant-loop-i l = Reads (times_of (l.count - l.i) (pairs_of l.text)) l.n l.buf (times_of l.count (pairs_of l.text)) 0 l.initial.buf
