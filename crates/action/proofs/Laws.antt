@@ -47,6 +47,10 @@ action_back RemoveDirectory = refl
 action_back DenyFile = refl
 action_back DenyDirectory = refl
 
+-- the tests of a number against 0, 1, 2, ..: each that fails leaves one number more behind
+pub more : {n k : ℕ} → k ≤ n → (n ≡ k → ⊥) → k + 1 ≤ n
+more h e = omega arith
+
 pub action_of_known : (n : ℕ) → n < length actions → action_of n ≡ gives (action_at n)
 unfolding action_of
 action_of_known n h = simp (lt-ltb n (length actions) h)

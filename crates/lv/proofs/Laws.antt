@@ -12,7 +12,7 @@ use borrow.Author.Tests.{le-leb, lt-leb, leb-true}
 use Rattle.bluebook.specs.Layouts.{lv}
 use Rattle.refusal.specs.Answer.{Answer, gives, refuses, short_at, map_answer, also, RefusedBy, place_test}
 use Rattle.refusal.specs.Reader.{took}
-use Rattle.refusal.proofs.Laws.{also_passed, also_both, also_assoc, pick_passed, refused_pick, limit_in, limit_over, limit_passed, place_test_in, place_test_out, place_test_passed}
+use Rattle.refusal.proofs.Laws.{also_passed, also_refused, also_both, also_assoc, pick_passed, refused_pick, limit_in, limit_over, limit_passed, place_test_in, place_test_out, place_test_passed}
 use Rattle.splice.specs.Laid.{laid, same_bytes}
 use Rattle.splice.specs.Writing.{room_for, Wrote}
 use Rattle.splice.proofs.Laws.{laid_cons}
@@ -72,6 +72,10 @@ new_lv_over start len h = rw (size_test_over (span start len) h)
 pub len_full_in : (l : Lv) → l.len ≤ 255 → len_full l ≡ gives (l.len + 1)
 unfolding len_full
 len_full_in l h = rw (size_test_in l h)
+
+pub len_full_over : (l : Lv) → 255 < l.len → len_full l ≡ refuses 4 (l.len ∷ [])
+unfolding len_full
+len_full_over l h = rw (size_test_over l h)
 
 -- ---- reading
 
@@ -217,6 +221,10 @@ write_lv_at_laid l src old new at {told} fine h w =
 -- ---- comparing
 
 module _ (l : Lv) (a : List ℕ) (m : Lv) (b : List ℕ) where
+  pub same_lv_refused : (n : ℕ) (vs : List ℕ) → refuses n vs ≡ also (span_test l a) (span_test m b) → refuses n vs ≡ same_lv l a m b
+  unfolding same_lv
+  same_lv_refused n vs e = also_refused _ _ n vs e
+
   pub same_lv_passed : gives tt ≡ also (span_test l a) (span_test m b) → same_lv l a m b ≡ gives (same_bytes (part_of l a) (part_of m b))
   unfolding same_lv
   same_lv_passed e = also_passed _ _ e

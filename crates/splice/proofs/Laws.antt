@@ -116,6 +116,18 @@ same_equal a b = (to a b, λ e. rw (← e) (self a))
         go true p e ih = λ i. eqb-true x y p i ∷ ih e i
         go false p e ih = let z : ◌≡◌ {A = ℕ} 0 1 = cc in absurd (omega arith)
 
+-- lists of different lengths are not the same
+pub same_lengths : (a b : List ℕ) → (length a ≡ length b → ⊥) → same_bytes a b ≡ false
+unfolding same_bytes
+same_lengths [] [] h = absurd (h refl)
+same_lengths [] (y ∷ b) h = refl
+same_lengths (x ∷ a) [] h = refl
+same_lengths (x ∷ a) (y ∷ b) h = go (eqb x y) (same_lengths a b (λ e. h (ap suc e)))
+  where
+    go : (t : Bool) → same_bytes a b ≡ false → t && same_bytes a b ≡ false
+    go true ih = ih
+    go false ih = refl
+
 -- it is what `==` says of two slices of bytes
 pub same_pointwise : (a b : List ℕ) → same_bytes a b ≡ pointwise eqb a b
 unfolding same_bytes

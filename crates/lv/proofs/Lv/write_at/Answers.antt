@@ -41,7 +41,7 @@ pub returns-in_err-put : goal.returns-in_err-put
 returns-in_err-put c =
     let v = c.value-v.result.now in
     let a = c.args in
-    absurd (never_refused (a.at + 1) v (set a.buf.now a.at (length v)) _ (simp length-set (omega arith)) c.in_err-put.ensures)
+    absurd (never_refused (a.at + 1) _ (set a.buf.now a.at (length v)) _ (simp length-set (omega arith)) c.in_err-put.ensures)
 
 pub returns : goal.returns
 returns c =
