@@ -19,7 +19,7 @@ use Rattle.splice.proofs.Writing.{room_for_in, room_for_out, room_at_there, wrot
 use Rattle.number.specs.Rules.{of_be, read_be, number_test}
 use Rattle.number.proofs.Laws.{read_be_in, number_test_passed, number_test_in, length_be}
 use Rattle.lv.specs.Rules.{span, part_of, span_test}
-use Rattle.lv.proofs.Laws.{span_test_passed}
+use Rattle.lv.proofs.Laws.{span_test_passed, length-part_of}
 use Rattle.tlv.specs.Kinds.{byte_of, is_standard}
 use Rattle.tlv.specs.Rules.{tlv_of}
 use Rattle.tlv.specs.declared.Tlv.{Tlv}
@@ -186,6 +186,7 @@ pub record Held (t : Tlv) (bs : List ℕ) (e : Entity) : Type 0 where
   pub fine : gives tt ≡ label_test t.tlv_type_field
   pub wide : width_ok t.lv.len ≡ true
   pub inside : t.lv.start + t.lv.len ≤ length bs
+  pub size : length (part_of t.lv bs) ≡ t.lv.len
   pub is : e ≡ numbered (part_of t.lv bs)
 
 pub of_tlv_given : (t : Tlv) (bs : List ℕ) (e : Entity) → of_tlv t bs ≡ gives e → Held t bs e
@@ -194,7 +195,8 @@ of_tlv_given t bs e p =
     let a = also_both (label_test t.tlv_type_field) _ e (sym p) in
     let b = also_both (width_test t.lv.len) _ e a.1 in
     let c = also_both (span_test t.lv bs) _ e b.1 in
-    record { fine = a.0; wide = width_test_passed t.lv.len b.0; inside = span_test_passed t.lv bs c.0; is = gives_same e _ c.1 }
+    let i = span_test_passed t.lv bs c.0 in
+    record { fine = a.0; wide = width_test_passed t.lv.len b.0; inside = i; size = length-part_of t.lv bs i; is = gives_same e _ c.1 }
 
 -- ---- an entity ID made of a width and a number is that of the bytes that have them
 
@@ -271,6 +273,12 @@ pub told_writable : (e : Entity) (n : ℕ) → gives tt ≡ room_test e n → Wr
 told_writable e n h =
     let m = mapped_by (λ _. tt) (write_entity e n) tt (sym h) in
     writable e n m.0 m.1
+
+-- what was written could be
+pub wrote_writable : (e : Entity) (old : List ℕ) {new : List ℕ} {k : ℕ} → Wrote 0 (write_entity e (length old)) (gives k) old new → Writable e (length old)
+wrote_writable e old {k = k} w =
+    let m = mapped_by length (write_entity e (length old)) k (sym w.answer) in
+    writable e (length old) m.0 m.1
 
 pub room_test_small : (e : Entity) (n : ℕ) → gives tt ≡ entity_test e → gives tt ≡ head_test n → n < e.width + 2 → room_test e n ≡ refuses 2 (n ∷ (e.width + 2) ∷ [])
 room_test_small e n fine head h = ap (map_answer (λ _. tt)) (write_entity_small e n fine h ∙ also_passed (head_test n) _ head)
