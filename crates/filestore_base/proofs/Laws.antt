@@ -3,15 +3,17 @@ use Rattle.std.specs.Prelude.{None, Option, Some}
 use mathlib.Core.Path.{◌≡◌, refl, sym, ap, subst, ◌∙◌}
 use Prim.Native.Nat.{ℕ, ◌+◌, ◌-◌, ◌*◌, ◌≤◌, ◌<◌}
 use native.Mathlib.Omega.{arith}
-use mathlib.Core.Bool.{◌&&◌}
+use mathlib.Core.Bool.{Bool, true, false, not, ◌&&◌}
 use mathlib.Core.List.{List, [], ◌∷◌, ◌++◌}
 use native.Mathlib.Nat.{add-sub_cancel_left}
 use lib.ListN.{length, take, drop, set, length-append, length-set}
+use lib.Dec.{eqb}
+use borrow.Author.Tests.{eq-eqb, ne_eqb}
 use borrow.Rule.Slice.PartMut.{put_mid}
 use Rattle.bluebook.specs.Layouts.{lv, lv_if, there}
-use Rattle.refusal.specs.Answer.{gives, refuses, also}
-use Rattle.refusal.proofs.Laws.{gives_same, also_passed, also_both, limit_in, limit_passed}
-use Rattle.splice.specs.Laid.{laid}
+use Rattle.refusal.specs.Answer.{gives, refuses, map_answer, also, Test}
+use Rattle.refusal.proofs.Laws.{gives_same, also_refused, also_passed, also_both, also_mapped, limit_in, limit_passed}
+use Rattle.splice.specs.Laid.{laid, same_bytes}
 use Rattle.splice.specs.Writing.{Wrote}
 use Rattle.splice.proofs.Laws.{laid_cons, laid_over, laid_behind, laid_none}
 use Rattle.splice.proofs.Writing.{room_for_in, room_for_out, wrote, wrote_not, wrote_refused, wrote_passed}
@@ -20,8 +22,8 @@ use Rattle.lv.specs.Rules as lvs
 use Rattle.lv.specs.declared.Lv.{Lv}
 use Rattle.lv.proofs.Laws.{size_test_in, size_test_passed, span_test_in, span_test_passed, Sound, sound, write_test_passed, part_of_in, length-part_of}
 use Rattle.action.specs.Rules.{code_of, due_of}
-use Rattle.filestore_base.specs.Meaning.{kind_of, is_there, part_if, meaning, parts_of, value_of, filed_tlv}
-use Rattle.filestore_base.specs.Rules.{size_if, span_if, len_if, due_test, parts_test, len_of, length_test, build_test, len_value, len_full, spans_test, write_test, write_base, same_octet, same_parts, same_base, FitsIf}
+use Rattle.filestore_base.specs.Meaning.{Filed, kind_of, is_there, part_if, meaning, parts_of, value_of, filed_tlv}
+use Rattle.filestore_base.specs.Rules.{size_if, span_if, len_if, due_test, parts_test, len_of, length_test, build_test, len_value, len_full, spans_test, write_test, write_base, same_if, same_octet, same_parts, same_base, FitsIf}
 use Rattle.filestore_base.specs.declared.FilestoreTlvBase.{FilestoreTlvBase}
 
 -- ---- single tests
@@ -29,6 +31,10 @@ use Rattle.filestore_base.specs.declared.FilestoreTlvBase.{FilestoreTlvBase}
 pub size_if_passed : (s : Option Lv) → gives tt ≡ size_if s → len_if s ≤ 256
 size_if_passed (Some l) e = omega (arith, size_test_passed l e)
 size_if_passed None e = omega arith
+
+-- the answer behind a test that was passed
+pub behind : {a b t : Test} → gives tt ≡ a → t ≡ b → t ≡ also a b
+behind {a} {b} p e = e ∙ sym (also_passed a b p)
 
 -- ---- building
 
@@ -54,6 +60,10 @@ module _ (b : FilestoreTlvBase) where
   unfolding parts_test
   parts_passed p = sym (rw (size_test_in b.first_name p.first, ← p.second, ← p.message, ← p.due, limit_in 9 15 b.low_bits p.low))
 
+  pub build_test_refused : (n : ℕ) (vs : List ℕ) → refuses n vs ≡ parts_test b → refuses n vs ≡ build_test b
+  unfolding build_test
+  build_test_refused n vs e = also_refused (parts_test b) (length_test (len_of b)) n vs e
+
   pub build_test_length : gives tt ≡ parts_test b → build_test b ≡ length_test (len_of b)
   unfolding build_test
   build_test_length e = also_passed (parts_test b) (length_test (len_of b)) e
@@ -67,10 +77,22 @@ module _ (b : FilestoreTlvBase) where
   pub build_passed : Parts b → len_of b ≤ 255 → gives tt ≡ build_test b
   build_passed p h = sym (build_test_length (parts_passed p) ∙ limit_in 5 255 (len_of b) h)
 
+  pub len_value_refused : (n : ℕ) (vs : List ℕ) → refuses n vs ≡ build_test b → refuses n vs ≡ len_value b
+  unfolding len_value
+  len_value_refused n vs e = also_refused (build_test b) (gives (len_of b)) n vs e
+
+  pub len_value_passed : gives tt ≡ build_test b → len_value b ≡ gives (len_of b)
+  unfolding len_value
+  len_value_passed e = also_passed (build_test b) (gives (len_of b)) e
+
   -- the whole is two bytes more
   pub len_full_passed : gives tt ≡ build_test b → len_full b ≡ gives (len_of b + 2)
   unfolding len_full
   len_full_passed e = also_passed (build_test b) (gives (len_of b + 2)) e
+
+  pub len_full_is : len_full b ≡ map_answer (λ n. n + 2) (len_value b)
+  unfolding len_full len_value
+  len_full_is = also_mapped (build_test b) (λ n. n + 2) (gives (len_of b))
 
   pub len_value_gives : (n : ℕ) → gives n ≡ len_value b → n ≤ 255
   unfolding len_value
@@ -235,7 +257,44 @@ module _ (b : FilestoreTlvBase) (src old : List ℕ) where
 
 -- ---- comparing
 
-pub same_base_is : (b : FilestoreTlvBase) (x : List ℕ) (c : FilestoreTlvBase) (y : List ℕ) → gives tt ≡ also (spans_test b x) (spans_test c y)
-    → same_base b x c y ≡ gives (same_octet b c && same_parts (meaning b x) (meaning c y))
-unfolding same_base
-same_base_is b x c y e = also_passed _ _ e
+pub same_if_absent : (s : Option Lv) (bs : List ℕ) → not (is_there s) ≡ same_if None (part_if s bs)
+same_if_absent (Some l) bs = refl
+same_if_absent None bs = refl
+
+module _ (b c : FilestoreTlvBase) where
+  pub same_octet_on : code_of b.action_code ≡ code_of c.action_code → eqb b.low_bits c.low_bits ≡ same_octet b c
+  unfolding same_octet
+  same_octet_on e = rw (eq-eqb _ _ e)
+
+  pub same_octet_off : (code_of b.action_code ≡ code_of c.action_code → ⊥) → false ≡ same_octet b c
+  unfolding same_octet
+  same_octet_off e = rw (ne_eqb _ _ e)
+
+module _ (m n : Filed) where
+  pub same_parts_first : same_bytes m.first n.first ≡ false → false ≡ same_parts m n
+  unfolding same_parts
+  same_parts_first e = rw e
+
+  pub same_parts_second : same_bytes m.first n.first ≡ true → same_if m.second n.second ≡ false → false ≡ same_parts m n
+  unfolding same_parts
+  same_parts_second e f = rw (e, f)
+
+  pub same_parts_message : same_bytes m.first n.first ≡ true → same_if m.second n.second ≡ true → same_if m.message n.message ≡ same_parts m n
+  unfolding same_parts
+  same_parts_message e f = rw (e, f)
+
+module _ (b : FilestoreTlvBase) (x : List ℕ) (c : FilestoreTlvBase) (y : List ℕ) where
+  pub same_base_refused : (n : ℕ) (vs : List ℕ) → refuses n vs ≡ also (spans_test b x) (spans_test c y) → refuses n vs ≡ same_base b x c y
+  unfolding same_base
+  same_base_refused n vs e = also_refused _ _ n vs e
+
+  pub same_base_is : gives tt ≡ also (spans_test b x) (spans_test c y) → same_base b x c y ≡ gives (same_octet b c && same_parts (meaning b x) (meaning c y))
+  unfolding same_base
+  same_base_is e = also_passed _ _ e
+
+  module _ (e : gives tt ≡ also (spans_test b x) (spans_test c y)) where
+    pub same_base_octet : same_octet b c ≡ false → gives false ≡ same_base b x c y
+    same_base_octet f = ap (λ (t : Bool). gives (t && same_parts (meaning b x) (meaning c y))) (sym f) ∙ sym (same_base_is e)
+
+    pub same_base_parts : (t : Bool) → same_octet b c ≡ true → same_parts (meaning b x) (meaning c y) ≡ t → gives t ≡ same_base b x c y
+    same_base_parts t f g = (λ i. gives (sym f i && sym g i)) ∙ sym (same_base_is e)

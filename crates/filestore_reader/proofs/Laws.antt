@@ -17,7 +17,7 @@ use Rattle.refusal.proofs.Laws.{mapped_by, map_answer_refused, map_answer_map_an
 use Rattle.refusal.proofs.Readers.{rest_at}
 use Rattle.lv.specs.Rules.{span, take_lv, read_lv_at}
 use Rattle.lv.specs.declared.Lv.{Lv}
-use Rattle.lv.proofs.Laws.{read_lv_at_in}
+use Rattle.lv.proofs.Laws.{read_lv_at_in, read_lv_at_none}
 use Rattle.lv.proofs.Theorems.{exactly_lv}
 use Rattle.tlv.specs.Rules.{take_of, len_of_type}
 use Rattle.tlv.proofs.Theorems as tlvs
@@ -143,6 +143,13 @@ pub read_names_is : (bs : List ℕ) (end : ℕ) (a : FilestoreActionCode) (low :
 unfolding read_names
 read_names_is bs end a low d = refl
 
+-- no first name, whatever the action
+pub read_names_none : (bs : List ℕ) (end : ℕ) (a : FilestoreActionCode) (low : ℕ) (d : Bool) → end ≡ 3 → end ≤ length bs → read_names bs end a low d ≡ short_at 3 0 1
+read_names_none bs end a low d e k =
+    let z : end - 3 ≡ 0 = omega arith in
+    sym (read_names_is bs end a low d)
+    ∙ ap (λ (y : Answer Lv). and_then y (λ f. read_behind bs end a low f d)) (read_lv_at_none bs 3 end k (omega arith) (omega arith) ∙ ap (λ (n : ℕ). short_at 3 n 1) z)
+
 -- ---- the value
 
 module _ (bs : List ℕ) (end : ℕ) (d : Bool) where
@@ -199,6 +206,14 @@ module _ (bs : List ℕ) (end : ℕ) (d : Bool) where
         go : (t : Bool) → ltb (o / 16) (length actions) ≡ t → read_value bs end d ≡ and_then (action_of (o / 16)) (λ a. read_names bs end a (o % 16) d)
         go true p = let q = ltb-true _ _ p in known q ∙ sym (ap (λ (x : Answer FilestoreActionCode). and_then x (λ a. read_names bs end a (o % 16) d)) (action_of_known (o / 16) q))
         go false p = let q = ltb-false _ _ p in none_such q ∙ sym (ap (λ (x : Answer FilestoreActionCode). and_then x (λ a. read_names bs end a (o % 16) d)) (action_of_none (o / 16) q))
+
+  -- the value's first byte alone: where its action is known, the first name is missing
+  pub read_value_nameless : (a : FilestoreActionCode) → end ≡ 3 → end ≤ length bs → gives a ≡ action_of (get_or bs 2 0 / 16) → read_value bs end d ≡ short_at 3 0 1
+  read_value_nameless a e k g =
+      let low = get_or bs 2 0 % 16 in
+      read_value_octet (omega arith) k
+      ∙ ap (λ (x : Answer FilestoreActionCode). and_then x (λ (b : FilestoreActionCode). read_names bs end b low d)) (sym g)
+      ∙ read_names_none bs end a low d e k
 
 -- ---- the whole TLV
 

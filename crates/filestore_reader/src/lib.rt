@@ -76,7 +76,7 @@ fn place_behind(at: usize, l: Option<Lv>) -> usize
 }
 
 // The value, which starts at 2.
-#[tactic(auto, using(crate::proofs::Laws::read_value_none))]
+#[tactic(auto, using(crate::proofs::Laws::read_value_none, crate::proofs::Laws::read_value_nameless))]
 fn value_in(tlv: &[u8], response: bool) -> Result<Found, Refusal>
     requires { 2 ≤ length tlv.now }
     ensures { told result ≡ read_value tlv.now (length tlv.now) response }
