@@ -1,6 +1,6 @@
 -- The laws of bytes laid over bytes, and of bytes compared. Callers cite these, and do not open the definitions. Assumes nothing.
 use mathlib.Core.Path.{◌≡◌, refl, sym, ap, ◌∙◌}
-use Prim.Native.Nat.{ℕ, suc, ◌+◌, ◌-◌, ◌≤◌}
+use Prim.Native.Nat.{ℕ, suc, ◌+◌, ◌*◌, ◌-◌, ◌≤◌}
 use native.Mathlib.Omega.{arith}
 use native.Mathlib.Nat.{zero-add}
 use native.Mathlib.Numerals.{add-one}
@@ -8,7 +8,7 @@ use mathlib.Core.Logic.{◌↔◌}
 use mathlib.Core.Bool.{Bool, true, false, ◌&&◌}
 use mathlib.Core.List.{List, [], ◌∷◌, ◌++◌, append_assoc, append-nil}
 use lib.ListN.{length, take, drop, set, length-append, length-drop, take-append-drop, drop_of_length-le}
-use lib.Seq.{take-suc-set, take-length, drop-set-lt, take-append-le, drop-append-le, drop-append-add, drop-drop, length-take-le}
+use lib.Seq.{take-suc-set, take-take, take-length, drop-set-lt, take-append-le, drop-append-le, drop-append-add, drop-drop, length-take-le}
 use lib.Dec.{eqb}
 use borrow.Author.Tests.{eq-eqb, eqb-true}
 use borrow.Rule.Slice.PartMut.{put_mid}
@@ -135,3 +135,43 @@ same_pointwise [] [] = refl
 same_pointwise [] (y ∷ b) = refl
 same_pointwise (x ∷ a) [] = refl
 same_pointwise (x ∷ a) (y ∷ b) = ap (λ (s : Bool). eqb x y && s) (same_pointwise a b)
+
+-- the first k of two lists of one length, and then all behind their first m, where m is at most k
+module _ (a b : List ℕ) (k m : ℕ) (n : length a ≡ length b) (h : m ≤ k) where
+  pub same_first : same_bytes (take k a) (take k b) ≡ false → same_bytes a b ≡ false
+  same_first e = go (same_bytes a b) refl
+    where
+      go : (t : Bool) → same_bytes a b ≡ t → same_bytes a b ≡ false
+      go true p = let z : ◌≡◌ {A = Bool} true false = sym ((same_equal (take k a) (take k b)).1 (ap (take k) ((same_equal a b).0 p))) ∙ e in cc
+      go false p = p
+
+  pub same_last : same_bytes (take k a) (take k b) ≡ true → same_bytes a b ≡ same_bytes (drop m a) (drop m b)
+  same_last e = go (same_bytes (drop m a) (drop m b)) refl
+    where
+      front : take m a ≡ take m b
+      front = sym (take-take m k a h) ∙ ap (take m) ((same_equal (take k a) (take k b)).0 e) ∙ take-take m k b h
+
+      go : (t : Bool) → same_bytes (drop m a) (drop m b) ≡ t → same_bytes a b ≡ same_bytes (drop m a) (drop m b)
+      go true p =
+          (same_equal a b).1 (sym (take-append-drop m a) ∙ (λ i. front i ++ (same_equal (drop m a) (drop m b)).0 p i) ∙ take-append-drop m b) ∙ sym p
+      go false p = back (same_bytes a b) refl ∙ sym p
+        where
+          back : (t : Bool) → same_bytes a b ≡ t → same_bytes a b ≡ false
+          back true q = let z : ◌≡◌ {A = Bool} true false = sym ((same_equal (drop m a) (drop m b)).1 (ap (drop m) ((same_equal a b).0 q))) ∙ p in cc
+          back false q = q
+
+-- two lists of one length, of which p and q are the first w
+module _ (w : ℕ) (a b p q : List ℕ) (n : length a ≡ length b) (hp : p ≡ take w a) (hq : q ≡ take w b) where
+  front : same_bytes (take w a) (take w b) ≡ pointwise eqb p q
+  front = (λ i. same_bytes (sym hp i) (sym hq i)) ∙ same_pointwise p q
+
+  pub differ_front : pointwise eqb p q ≡ false → same_bytes a b ≡ false
+  differ_front e = same_first a b w 0 n (omega arith) (front ∙ e)
+
+  -- and r and s the last w, which lie behind no more than w
+  pub alike_front : (r s : List ℕ) → r ≡ drop (length a - w) a → s ≡ drop (length b - w) b → length a ≤ 2 * w → pointwise eqb p q ≡ true
+      → pointwise eqb r s ≡ same_bytes a b
+  alike_front r s hr hs h e =
+      sym (same_pointwise r s)
+      ∙ (λ i. same_bytes (hr i) ((hs ∙ ap (λ (k : ℕ). drop (k - w) b) (sym n)) i))
+      ∙ sym (same_last a b w (length a - w) n (omega arith) (front ∙ e))

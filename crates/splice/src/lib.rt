@@ -73,10 +73,50 @@ pub fn put(dst: &mut [u8], at: usize, src: &[u8]) -> Result<usize, Refusal>
     Ok(expected)
 }
 
-// Whether a and b hold the same bytes: `==`, by a name that tells a caller's proof `same_bytes`.
+// Whether a and b, which is as long, hold the same bytes, as the first W and then the last W: LLVM makes it compares of a constant width.
+#[tactic(auto, using(crate::proofs::Laws::differ_front, crate::proofs::Laws::alike_front))]
+fn alike<const W: usize>(a: &[u8], b: &[u8]) -> bool
+    requires same { length a.now ≡ length b.now }
+    requires within { (W ≤ length a.now) × (length a.now ≤ 2 * W) }
+    ensures { result ≡ same_bytes a.now b.now }
+{
+    if *a.first_chunk::<W>().unwrap() != *b.first_chunk::<W>().unwrap() {
+        return false;
+    }
+    *a.last_chunk::<W>().unwrap() == *b.last_chunk::<W>().unwrap()
+}
+
+// The same of 1 to 32 bytes, by the way that is fastest for the length, as `lay` has it.
+fn few(a: &[u8], b: &[u8]) -> bool
+    requires same { length a.now ≡ length b.now }
+    requires within { (1 ≤ length a.now) × (length a.now ≤ 32) }
+    ensures { result ≡ same_bytes a.now b.now }
+{
+    let n = a.len();
+    if 16 <= n {
+        return alike::<16>(a, b);
+    }
+    if 8 <= n {
+        return alike::<8>(a, b);
+    }
+    if 4 <= n {
+        return alike::<4>(a, b);
+    }
+    if 2 <= n {
+        return alike::<2>(a, b);
+    }
+    alike::<1>(a, b)
+}
+
+// Whether a and b hold the same bytes: `==`, by a name that tells a caller's proof `same_bytes`. Up to 32 bytes go by `few`: `==` makes a call for most of them,
+// and compares 8 bytes in more than twice the time.
 pub fn same(a: &[u8], b: &[u8]) -> bool
     ensures { result ≡ same_bytes a.now b.now }
 {
+    let n = a.len();
+    if n == b.len() && 1 <= n && n <= 32 {
+        return few(a, b);
+    }
     a == b
 }
 
