@@ -73,7 +73,7 @@ pub fn put(dst: &mut [u8], at: usize, src: &[u8]) -> Result<usize, Refusal>
     Ok(expected)
 }
 
-// Whether a and b, which is as long, hold the same bytes, as the first W and then the last W: LLVM makes it compares of a constant width.
+// Whether a and b, which have the same length, hold the same bytes: the first W, and then the last W. LLVM makes these compares of a constant width.
 #[tactic(auto, using(crate::proofs::Laws::differ_front, crate::proofs::Laws::alike_front))]
 fn alike<const W: usize>(a: &[u8], b: &[u8]) -> bool
     requires same { length a.now ≡ length b.now }
@@ -86,7 +86,7 @@ fn alike<const W: usize>(a: &[u8], b: &[u8]) -> bool
     *a.last_chunk::<W>().unwrap() == *b.last_chunk::<W>().unwrap()
 }
 
-// The same of 1 to 32 bytes, by the way that is fastest for the length, as `lay` has it.
+// The same of 1 to 32 bytes, by a width that is chosen as in `lay`.
 fn few(a: &[u8], b: &[u8]) -> bool
     requires same { length a.now ≡ length b.now }
     requires within { (1 ≤ length a.now) × (length a.now ≤ 32) }
@@ -108,7 +108,7 @@ fn few(a: &[u8], b: &[u8]) -> bool
     alike::<1>(a, b)
 }
 
-// Whether a and b hold the same bytes: `==`, by a name that tells a caller's proof `same_bytes`. Up to 32 bytes go by `few`: `==` makes a call for most of them,
+// Whether a and b hold the same bytes: `==`, by a name that tells a caller's proof `same_bytes`. 1 to 32 bytes go by `few`: `==` makes a call for most of them,
 // and compares 8 bytes in more than twice the time.
 pub fn same(a: &[u8], b: &[u8]) -> bool
     ensures { result ≡ same_bytes a.now b.now }
